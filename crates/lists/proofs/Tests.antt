@@ -1,0 +1,159 @@
+-- Tests with an answer of type Bool: cases on an answer, `&&`, `cond`, and what `each` and `some-of` say of the members of a list.
+use mathlib.Core.Path.{_≡_, refl, ap, ap₂, sym, _∙_, subst}
+use mathlib.Core.Logic.{_⊎_, inl, inr}
+use mathlib.Core.Bool.{Bool, true, false, not, cond, _&&_, _||_, true≢false}
+use mathlib.Core.List.{List, [], _∷_, _++_, map, List·Memᴰ·head, List·Memᴰ·tail, List·Memᴰ·cases-cons, List·Memᴰ·not-nil}
+use Rattle.lists.specs.Select.{each, some-of}
+pub use Rattle.lists.specs.Members.{_∈_}
+
+-- cases on a test
+pub by-test {ℓ} : {P : Type ℓ} (b : Bool) → (b ≡ true → P) → (b ≡ false → P) → P
+by-test true f g = f refl
+by-test false f g = g refl
+
+-- a test has one answer
+pub no-both {ℓ} : {P : Type ℓ} {b : Bool} → b ≡ true → b ≡ false → P
+no-both e f = absurd (true≢false (sym e ∙ f))
+
+-- cases on a sum
+pub either {ℓ ℓ′ ℓ″} : {A : Type ℓ} {B : Type ℓ′} {P : Type ℓ″} → A ⊎ B → (A → P) → (B → P) → P
+either (inl a) f g = f a
+either (inr b) f g = g b
+
+-- a test that is not true is false, and the other way round
+pub is-false : (b : Bool) → (b ≡ true → ⊥) → b ≡ false
+is-false true h = absurd (h refl)
+is-false false h = refl
+
+pub is-true : (b : Bool) → (b ≡ false → ⊥) → b ≡ true
+is-true true h = refl
+is-true false h = absurd (h refl)
+
+-- two tests are equal if each is true where the other is
+pub same-tests : (a b : Bool) → (a ≡ true → b ≡ true) → (b ≡ true → a ≡ true) → a ≡ b
+same-tests true b f g = sym (f refl)
+same-tests false true f g = g refl
+same-tests false false f g = refl
+
+pub not-of-true : (b : Bool) → not b ≡ true → b ≡ false
+not-of-true true e = sym e
+not-of-true false e = refl
+
+pub not-of-false : (b : Bool) → not b ≡ false → b ≡ true
+not-of-false true e = refl
+not-of-false false e = sym e
+
+-- `a && b` is true: both are
+pub and-true : (a b : Bool) → (a && b) ≡ true → (a ≡ true) × (b ≡ true)
+and-true true b e = (refl, e)
+and-true false b e = (e, absurd (true≢false (sym e)))
+
+pub true-and : {a b : Bool} → a ≡ true → b ≡ true → (a && b) ≡ true
+true-and e f = rw (e, f)
+
+-- `a || b` is true: one of them is
+pub or-true : (a b : Bool) → (a || b) ≡ true → (a ≡ true) ⊎ (b ≡ true)
+or-true true b e = inl refl
+or-true false b e = inr e
+
+module _ {ℓ κ} {A : Type ℓ} (P : A → Type κ) where
+  -- what holds of both arms holds of the chosen one
+  pub choose-both : (b : Bool) {x y : A} → P x → P y → P (cond b x y)
+  choose-both true p q = p
+  choose-both false p q = q
+
+  -- the same, where each arm may use what the test said
+  pub choose-case : (b : Bool) {x y : A} → (b ≡ true → P x) → (b ≡ false → P y) → P (cond b x y)
+  choose-case true p q = p refl
+  choose-case false p q = q refl
+
+-- a function of the chosen arm
+pub choose-map {ℓ κ} : {A : Type ℓ} {B : Type κ} (f : A → B) (b : Bool) {x y : A} {u v : B} → u ≡ f x → v ≡ f y → cond b u v ≡ f (cond b x y)
+choose-map f true p q = p
+choose-map f false p q = q
+
+-- the chosen arm, by the test's answer
+pub cond-true {ℓ} : {A : Type ℓ} {b : Bool} (x y : A) → b ≡ true → cond b x y ≡ x
+cond-true x y e = ap (λ t. cond t x y) e
+
+pub cond-false {ℓ} : {A : Type ℓ} {b : Bool} (x y : A) → b ≡ false → cond b x y ≡ y
+cond-false x y e = ap (λ t. cond t x y) e
+
+-- both arms are the same
+pub cond-same {ℓ} : {A : Type ℓ} (b : Bool) {x : A} → cond b x x ≡ x
+cond-same true = refl
+cond-same false = refl
+
+-- a choice whose second arm is false
+pub cond-and : (a b : Bool) → cond a b false ≡ true → (a ≡ true) × (b ≡ true)
+cond-and true b e = (refl, e)
+cond-and false b e = (e, absurd (true≢false (sym e)))
+
+module _ {A : Type 0} (p : A → Bool) where
+  pub each-cons : {x : A} (l : List A) → p x ≡ true → each p l ≡ true → each p (x ∷ l) ≡ true
+  each-cons l e f = rw (e, f)
+
+  pub each-head : (x : A) (l : List A) → each p (x ∷ l) ≡ true → p x ≡ true
+  each-head x l e = (cond-and (p x) (each p l) e) .0
+
+  pub each-tail : (x : A) (l : List A) → each p (x ∷ l) ≡ true → each p l ≡ true
+  each-tail x l e = (cond-and (p x) (each p l) e) .1
+
+  -- if every member passes, `each` says true
+  pub each-true : (l : List A) → ((x : A) → x ∈ l → p x ≡ true) → each p l ≡ true
+  each-true [] h = refl
+  each-true (x ∷ l) h = each-cons l (h x (List·Memᴰ·head refl)) (each-true l (λ y m. h y (List·Memᴰ·tail m)))
+
+  -- if `each` says true, every member passes
+  pub each-member : {l : List A} {x : A} → each p l ≡ true → x ∈ l → p x ≡ true
+  each-member {l = x ∷ l} e (List·Memᴰ·head q) = ap p q ∙ each-head x l e
+  each-member {l = x ∷ l} e (List·Memᴰ·tail m) = each-member (each-tail x l e) m
+
+  -- if `each` says false, some member fails
+  pub not-each : (l : List A) → each p l ≡ false → (x : A) × (x ∈ l) × (p x ≡ false)
+  not-each [] e = absurd (true≢false e)
+  not-each (x ∷ l) e =
+      by-test (p x)
+      (λ t. let r = not-each l (rw t at e) in (r .0, List·Memᴰ·tail (r .1), r .2))
+      (λ f. (x, List·Memᴰ·head refl, f))
+
+  -- if some member fails, `each` says false
+  pub each-false : {l : List A} {x : A} → x ∈ l → p x ≡ false → each p l ≡ false
+  each-false {l} m e = is-false (each p l) (λ t. no-both (each-member t m) e)
+
+  pub each-append : (l m : List A) → each p (l ++ m) ≡ (each p l && each p m)
+  each-append [] m = refl
+  each-append (x ∷ l) m = by-test (p x) (λ t. rw (t, each-append l m)) (λ f. rw f)
+
+  -- if `some-of` says true, some member passes
+  pub some-member : (l : List A) → some-of p l ≡ true → (x : A) × (x ∈ l) × (p x ≡ true)
+  some-member [] e = absurd (true≢false (sym e))
+  some-member (x ∷ l) e =
+      by-test (p x)
+      (λ t. (x, List·Memᴰ·head refl, t))
+      (λ f. let r = some-member l (rw f at e) in (r .0, List·Memᴰ·tail (r .1), r .2))
+
+  -- if some member passes, `some-of` says true
+  pub some-true : {l : List A} {x : A} → x ∈ l → p x ≡ true → some-of p l ≡ true
+  some-true {l = y ∷ l} (List·Memᴰ·head q) e = rw (sym (ap p q) ∙ e)
+  some-true {l = y ∷ l} (List·Memᴰ·tail m) e = by-test (p y) (λ t. rw t) (λ f. rw f (some-true m e))
+
+  -- if no member passes, `some-of` says false, and the other way round
+  pub some-false : (l : List A) → ((x : A) → x ∈ l → p x ≡ false) → some-of p l ≡ false
+  some-false l h = is-false (some-of p l) (λ t. let r = some-member l t in no-both (r .2) (h (r .0) (r .1)))
+
+  pub not-some : {l : List A} {x : A} → some-of p l ≡ false → x ∈ l → p x ≡ false
+  not-some {x = x} e m = is-false (p x) (λ t. no-both (some-true m t) e)
+
+  pub some-append : (l m : List A) → some-of p (l ++ m) ≡ (some-of p l || some-of p m)
+  some-append [] m = refl
+  some-append (x ∷ l) m = by-test (p x) (λ t. rw t) (λ f. rw (f, some-append l m))
+
+-- `each` and `some-of` of a test that agrees on every member
+pub each-same : {A : Type 0} (p q : A → Bool) (l : List A) → ((x : A) → x ∈ l → p x ≡ q x) → each p l ≡ each q l
+each-same p q [] h = refl
+each-same p q (x ∷ l) h = ap₂ (λ a b. cond a b false) (h x (List·Memᴰ·head refl)) (each-same p q l (λ y m. h y (List·Memᴰ·tail m)))
+
+pub each-map : {A B : Type 0} (f : A → B) (p : B → Bool) (l : List A) → each p (map f l) ≡ each (λ x. p (f x)) l
+each-map f p [] = refl
+each-map f p (x ∷ l) = rw (each-map f p l)

@@ -1,0 +1,48 @@
+// Comparing two lists of bytes, and exchanging two neighbouring blocks of a lent slice.
+ghost use denote.Ref.{now};
+ghost use mathlib.Core.Path.{_≡_};
+ghost use Prim.Native.Nat.{_≤_, compare as compareNumbers};
+ghost use lib.ListN.{length};
+ghost use Rattle.lists.specs.Order.{lex};
+ghost use Rattle.lists.specs.Blocks.{orderingOf, exchanged};
+
+pub enum Order {
+    Less,
+    Equal,
+    Greater,
+}
+
+// Lexicographic comparison: the first difference decides, and a proper beginning comes first.
+pub fn compare(s: &[u8], t: &[u8]) -> Order
+    ensures { λ r. ⌜ orderingOf r ≡ lex compareNumbers (now (s .entry)) (now (t .entry)) ⌝ }
+{
+    let mut i = 0;
+    while i < s.len() {
+        if t.len() <= i {
+            return Order::Greater;
+        }
+        let x = s[i];
+        let y = t[i];
+        if x < y {
+            return Order::Less;
+        }
+        if y < x {
+            return Order::Greater;
+        }
+        i += 1;
+    }
+    if i < t.len() {
+        return Order::Less;
+    }
+    Order::Equal
+}
+
+// The blocks a..b and b..e of `s` change places; nothing else moves.
+pub fn exchange(s: &mut [u8], a: usize, b: usize, e: usize)
+    requires { ⌜ (a ≤ b) × (b ≤ e) × (e ≤ length (now s)) ⌝ }
+    ensures { λ r. ⌜ now (s .exit) ≡ exchanged a b e (now (s .entry)) ⌝ }
+{
+    bytes::reverse(s, a, b);
+    bytes::reverse(s, b, e);
+    bytes::reverse(s, a, e);
+}
