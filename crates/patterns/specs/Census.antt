@@ -1,0 +1,52 @@
+-- The census of a map: document 01, "Refusing", last but one paragraph.
+use mathlib.Core.Path.{_≡_}
+use mathlib.Core.Bool.{cond}
+use mathlib.Core.List.{List, [], _∷_, map}
+use Prim.Native.Nat.{ℕ, zero, suc}
+use lib.Dec.{leb, eqb}
+use lib.ListN.{length}
+use Rattle.lists.specs.Select.{keep, range, times}
+use Rattle.patterns.specs.Table.{onCycle, cycleFrom, leaders}
+
+abbrev pub greatest : List ℕ → ℕ
+greatest [] = 0
+greatest (x ∷ l) = let m = greatest l in cond (leb m x) x m
+
+-- a cycle length and the number of cycles of that length
+pub record Row : Type 0 where
+  pub cycleLength : ℕ
+  pub cycles : ℕ
+
+module _ (n : ℕ) (f : ℕ → ℕ) where
+  -- the lengths of the cycles, one for each cycle
+  unfoldable pub cycleLengths : List ℕ
+  unfolding leaders cycleFrom
+  cycleLengths = map (λ x. length (cycleFrom n f x)) (leaders n f)
+
+  -- how many cycles have length l
+  unfoldable pub cyclesOf : ℕ → ℕ
+  unfolding cycleLengths
+  cyclesOf l = times l cycleLengths
+
+  -- the steps from x to its cycle, at most k
+  unfoldable pub stepsToCycle : ℕ → ℕ → ℕ
+  unfolding onCycle
+  stepsToCycle zero x = 0
+  stepsToCycle (suc k) x =
+      let further = suc (stepsToCycle k (f x)) in
+      cond (onCycle n f x) 0 further
+
+  -- the greatest distance of a point from its cycle
+  unfoldable pub height : ℕ
+  unfolding stepsToCycle
+  height = greatest (map (stepsToCycle n) (range 0 n))
+
+  -- the longest cycle length [document 01: round length]
+  unfoldable pub longestCycle : ℕ
+  unfolding cycleLengths
+  longestCycle = greatest cycleLengths
+
+  -- Every occurring length has one row, with its number of cycles; the order of the rows is free.
+  pub record Census (rows : List Row) : Type 0 where
+    pub once : (l : ℕ) → times l (map (λ r. r .cycleLength) rows) ≡ cond (eqb (cyclesOf l) 0) 0 1
+    pub counted : map (λ r. r .cycles) rows ≡ map (λ r. cyclesOf (r .cycleLength)) rows

@@ -1,0 +1,150 @@
+-- What each public entry answers, and what it leaves in the lent buffers: document 01, "Refusing".
+use mathlib.Core.Path.{_≡_}
+use mathlib.Core.Bool.{cond}
+use mathlib.Core.List.{List, [], _∷_, _++_}
+use mathlib.Core.Option.{Option, none, some}
+use Prim.Native.Nat.{ℕ, _+_}
+use lib.Dec.{leb, ltb}
+use lib.ListN.{length, drop}
+use Rattle.lists.specs.Select.{first, next}
+use Rattle.patterns.specs.declared.Refusal.{Refusal}
+use Rattle.patterns.specs.declared.Refusal.the-variants.{Count, Image, Truncated, NumberForm, Sizes, NotCanonical, Trailing, Room, Position}
+use Rattle.patterns.specs.System.{System, weight, codes, compareSystem}
+use Rattle.patterns.specs.Written.{written, startOf}
+use Rattle.patterns.specs.Reading.{Result, done, fault, andThen, accepted}
+use Rattle.patterns.specs.Table.{image, isTable, systemOfTable}
+use Rattle.patterns.specs.MapOf.{mapOf}
+use Rattle.patterns.specs.Isomorphism.{Isomorphism}
+use Rattle.patterns.specs.Census.{Row, Census, height, longestCycle}
+
+-- the table of causes
+abbrev pub numberOf : Refusal → ℕ
+numberOf Count = 1
+numberOf Image = 2
+numberOf Truncated = 3
+numberOf NumberForm = 4
+numberOf Sizes = 5
+numberOf NotCanonical = 6
+numberOf Trailing = 7
+numberOf Room = 8
+numberOf Position = 9
+
+-- A reply in document 01's words: a length (or n, or a number of entries), "last", "none", or a refusal with its number.
+pub data Answer : Type 0 where
+  length-is : ℕ → Answer
+  last : Answer
+  none-exists : Answer
+  refused : ℕ → Answer
+
+-- What an entry finds before it looks at the lent output: a result to write, "last", "none", or a refusal.
+pub data Outcome (A : Type 0) : Type 0 where
+  gives : List A → Outcome A
+  ends : Outcome A
+  lacks : Outcome A
+  fails : Refusal → Outcome A
+
+-- the reply, given the output as it was lent: 8 only where there is a result to write
+abbrev pub answered : {A : Type 0} → Outcome A → List A → Answer
+answered (gives l) out = cond (leb (length l) (length out)) (length-is (length l)) (refused (numberOf Room))
+answered ends out = last
+answered lacks out = none-exists
+answered (fails c) out = refused (numberOf c)
+
+-- the output afterwards: a result fills the first places, and the places after it keep what they held; without a result all is kept
+abbrev pub filled : {A : Type 0} → Outcome A → List A → List A
+filled (gives l) out = cond (leb (length l) (length out)) (l ++ drop (length l) out) out
+filled ends out = out
+filled lacks out = out
+filled (fails c) out = out
+
+-- an entry that found o replied and left the output so
+pub record Replied {A : Type 0} (o : Outcome A) (before : List A) (answer : Answer) (after : List A) : Type 0 where
+  pub reply : answer ≡ answered o before
+  pub output : after ≡ filled o before
+
+abbrev pub outcome : {A B : Type 0} → Result A → (A → Outcome B) → Outcome B
+outcome (done x) f = f x
+outcome (fault c) f = fails c
+
+-- the reply of an entry that writes nothing
+abbrev pub answer : {A : Type 0} → Result A → (A → Answer) → Answer
+answer (done x) f = f x
+answer (fault c) f = refused (numberOf c)
+
+-- Entry "accept": n, or the refusal of a written code
+unfoldable pub acceptOf : List ℕ → Answer
+unfolding accepted
+acceptOf b = answer (accepted b) (λ S. length-is (weight S))
+
+-- a code of the list to write, or the end of the list
+abbrev pub listed : Option System → Outcome ℕ
+listed (some S) = gives (written S)
+listed none = ends
+
+-- Entry "first code for a count": the first of the list
+unfoldable pub firstOf : ℕ → Outcome ℕ
+unfolding codes written
+firstOf n =
+    let code = listed (first (codes n)) in
+    cond (ltb 200 n) (fails Count) code
+
+-- Entry "successor": the code that follows in the list
+unfoldable pub successorOf : List ℕ → Outcome ℕ
+unfolding accepted codes compareSystem written
+successorOf b = outcome (accepted b) (λ S. listed (next compareSystem S (codes (weight S))))
+
+-- a table of at most 200 points, each byte a point: 1, then 2
+unfoldable pub checkedTable : List ℕ → Result (List ℕ)
+checkedTable f = cond (ltb 200 (length f)) (fault Count) (cond (isTable f) (done f) (fault Image))
+
+-- Entry "code of a map"
+unfoldable pub codeOfMap : List ℕ → Outcome ℕ
+unfolding checkedTable systemOfTable written
+codeOfMap f = outcome (checkedTable f) (λ f. gives (written (systemOfTable f)))
+
+-- Entry "map of a code"
+unfoldable pub mapOfCode : List ℕ → Outcome ℕ
+unfolding accepted mapOf
+mapOfCode b = outcome (accepted b) (λ S. gives (mapOf S))
+
+-- Entry "renaming between two maps": which isomorphism is written is left open, and "none" is answered exactly where there is none.
+pub data Isomorphic (f g : List ℕ) : Outcome ℕ → Type 0 where
+  first-refused : {c : Refusal} → checkedTable f ≡ fault c → Isomorphic f g (fails c)
+  second-refused : {c : Refusal} → checkedTable f ≡ done f → checkedTable g ≡ fault c → Isomorphic f g (fails c)
+  found : {r : List ℕ} → checkedTable f ≡ done f → checkedTable g ≡ done g → length f ≡ length g → Isomorphism (length f) f g r → Isomorphic f g (gives r)
+  lengths-differ : checkedTable f ≡ done f → checkedTable g ≡ done g → (length f ≡ length g → ⊥) → Isomorphic f g lacks
+  not-found : checkedTable f ≡ done f → checkedTable g ≡ done g → length f ≡ length g → ((r : List ℕ) → Isomorphism (length f) f g r → ⊥) → Isomorphic f g lacks
+
+-- the reply of that entry
+pub record IsomorphismReplied (f g before : List ℕ) (answer : Answer) (after : List ℕ) : Type 0 where
+  pub found : Outcome ℕ
+  pub isomorphic : Isomorphic f g found
+  pub replied : Replied found before answer after
+
+-- Entry "census of a map": the rows that it writes, in an order left open
+pub data Counted (f : List ℕ) : Result (List Row) → Type 0 where
+  table-refused : {c : Refusal} → checkedTable f ≡ fault c → Counted f (fault c)
+  counted : {rows : List Row} → checkedTable f ≡ done f → Census (length f) (image f) rows → Counted f (done rows)
+
+-- the number of entries, the greatest distance of a point from its cycle and the longest cycle, or a refusal with its number
+pub data CensusAnswer : Type 0 where
+  census-is : ℕ → ℕ → ℕ → CensusAnswer
+  census-refused : ℕ → CensusAnswer
+
+abbrev pub censusAnswered : List ℕ → Result (List Row) → List Row → CensusAnswer
+censusAnswered f (done rows) out =
+    let whole = census-is (length rows) (height (length f) (image f)) (longestCycle (length f) (image f)) in
+    cond (leb (length rows) (length out)) whole (census-refused (numberOf Room))
+censusAnswered f (fault c) out = census-refused (numberOf c)
+
+-- the reply of that entry
+pub record CensusReplied (f : List ℕ) (before : List Row) (answer : CensusAnswer) (after : List Row) : Type 0 where
+  pub found : Result (List Row)
+  pub isCensus : Counted f found
+  pub reply : answer ≡ censusAnswered f found before
+  pub output : after ≡ filled (outcome found gives) before
+
+-- Entry "component reader": where the bytes of the component at position i begin and end in the code
+unfoldable pub componentOf : List ℕ → ℕ → Result (ℕ × ℕ)
+unfolding accepted startOf
+componentOf b i = andThen (accepted b) (λ S. cond (ltb i (length S)) (done (startOf S i, startOf S (i + 1))) (fault Position))

@@ -1,0 +1,32 @@
+// The causes of a refusal [document 01, "Refusing"], with the numbers that document 01 gives them.
+ghost use mathlib.Core.Path.{_≡_};
+ghost use Rattle.patterns.specs.Entry.{numberOf};
+
+pub enum Refusal {
+    Count,
+    Image,
+    Truncated,
+    NumberForm,
+    Sizes,
+    NotCanonical,
+    Trailing,
+    Room,
+    Position,
+}
+
+// The number that document 01 gives a cause.
+pub fn number(cause: Refusal) -> u8
+    ensures { λ r. ⌜ r ≡ numberOf cause ⌝ }
+{
+    match cause {
+        Refusal::Count => 1,
+        Refusal::Image => 2,
+        Refusal::Truncated => 3,
+        Refusal::NumberForm => 4,
+        Refusal::Sizes => 5,
+        Refusal::NotCanonical => 6,
+        Refusal::Trailing => 7,
+        Refusal::Room => 8,
+        Refusal::Position => 9,
+    }
+}
