@@ -1,0 +1,152 @@
+-- The entries that pass, each once, by their places: an entry is listed at place k exactly if it passes and first stands at k.
+use mathlib.Core.Path.{_≡_, refl, ap, ap₂, sym, _∙_}
+use mathlib.Core.Bool.{Bool, true, not, cond, _&&_}
+use mathlib.Core.List.{List, [], _∷_, _++_, append-assoc}
+use Prim.Native.Nat.{ℕ, suc, _+_, _-_, _<_, Ordering}
+use native.Mathlib.Omega.{arith}
+use lib.Dec.{eqb}
+use borrow.Author.Tests.{eq-eqb, ne-eqb, eqb-true}
+use lib.ListN.{length, getD, length-append}
+use lib.Seq.{getD-append-seam}
+use Rattle.lists.specs.Order.{same}
+use Rattle.lists.specs.Select.{keep, gather, range, some-of, place, once, first, next}
+use Rattle.lists.proofs.Tests.{_∈_, by-test, no-both, and-true, is-false, some-append, some-member, some-true}
+use Rattle.lists.proofs.Members.{Decides, in-head, in-tail, in-moved, keep-all, of-keep, of-once, of-gather, of-range, gather-append, in-single, not-in-nil}
+use Rattle.lists.proofs.Places.{first-split, place-split, place-index, next-split, range-append}
+
+module _ {A : Type 0} where
+  -- two tests one after the other are one test
+  pub keep-keep : (p q r : A → Bool) (l : List A) → ((x : A) → x ∈ l → r x ≡ (p x && q x)) → keep q (keep p l) ≡ keep r l
+  keep-keep p q r [] h = refl
+  keep-keep p q r (x ∷ l) h =
+      let e = h x in-head in
+      let rest = keep-keep p q r l (λ y m. h y (in-tail m)) in
+      by-test (p x)
+      (λ t. by-test (q x)
+      (λ u. rw (t, u, e, t, u) (ap (λ k. x ∷ k) rest))
+      (λ u. rw (t, u, e, t, u) rest))
+      (λ t. rw (t, e, t) rest)
+
+  -- tests that agree on the members keep the same
+  pub keep-same : (p q : A → Bool) (l : List A) → ((x : A) → x ∈ l → p x ≡ q x) → keep p l ≡ keep q l
+  keep-same p q [] h = refl
+  keep-same p q (x ∷ l) h =
+      let rest = keep-same p q l (λ y m. h y (in-tail m)) in
+      by-test (q x)
+      (λ t. rw (h x in-head, t) (ap (λ k. x ∷ k) rest))
+      (λ t. rw (h x in-head, t) rest)
+
+module _ {A : Type 0} {c : A → A → Ordering} (w : Decides c) (p : A → Bool) (d : A) where
+  -- the entry at place k, if it passes and stands nowhere before
+  unfoldable pub newAt : List A → ℕ → List A
+  newAt l k = cond (p (getD l k d) && eqb (place c (getD l k d) l) k) (getD l k d ∷ []) []
+
+  -- what stands in a has its place in a
+  place-within : (a b : List A) {x : A} → x ∈ a → place c x (a ++ b) < length a
+  place-within a b {x} m =
+      let s = first-split w m in
+      let e : a ++ b ≡ s .0 ++ (x ∷ (s .1 ++ b)) = ap (λ k. k ++ b) (s .2) ∙ append-assoc (s .0) (x ∷ s .1) b in
+      omega (arith, ap (place c x) e, place-split w (s .0) x (s .1 ++ b) (s .3), ap length (s .2), length-append (s .0) (x ∷ s .1))
+
+  turned : (x y : A) → same c x y ≡ same c y x
+  turned x y =
+      by-test (same c y x)
+      (λ t. ap (λ k. same c k y) (sym (w .sound y x t)) ∙ w .self y ∙ sym t)
+      (λ t. is-false (same c x y) (λ u. no-both (ap (λ k. same c k x) (sym (w .sound x y u)) ∙ w .self x) t) ∙ sym t)
+
+  -- y is none of a and not x
+  abbrev fresh : List A → A → Bool
+  fresh a y = not (some-of (same c y) a)
+
+  fresh-snoc : (a : List A) (x y : A) → fresh (a ++ (x ∷ [])) y ≡ (not (same c x y) && fresh a y)
+  fresh-snoc a x y =
+      ap not (some-append (same c y) a (x ∷ [])) ∙
+      by-test (some-of (same c y) a)
+      (λ t. by-test (same c x y) (λ u. rw (t, u)) (λ u. rw (t, u)))
+      (λ t. by-test (same c x y) (λ u. rw (t, sym (turned x y), u)) (λ u. rw (t, sym (turned x y), u)))
+
+  -- whether the entry after a is new
+  new-here : (a : List A) (x : A) (l : List A) → newAt (a ++ (x ∷ l)) (length a) ≡ cond (p x && fresh a x) (x ∷ []) []
+  unfolding newAt
+  new-here a x l =
+      rw (getD-append-seam a x l d)
+      (ap (λ b. cond (p x && b) (x ∷ []) [])
+      (by-test (some-of (same c x) a)
+      (λ t.
+      let s = some-member (same c x) a t in
+      let m : x ∈ a = in-moved (sym (w .sound x (s .0) (s .2))) (s .1) in
+      let h = place-within a (x ∷ l) m in
+      ne-eqb (place c x (a ++ (x ∷ l))) (length a) (λ e. omega arith) ∙ sym (ap not t))
+      (λ t.
+      eq-eqb (place c x (a ++ (x ∷ l))) (length a)
+      (place-split w a x l (λ m. no-both (some-true (same c x) m (w .self x)) t))
+      ∙ sym (ap not t))))
+
+  once-here : (a : List A) (x : A) (l : List A)
+      → keep (fresh a) (once c (keep p (x ∷ l))) ≡ cond (p x && fresh a x) (x ∷ []) [] ++ keep (fresh (a ++ (x ∷ []))) (once c (keep p l))
+  once-here a x l =
+      let O = once c (keep p l) in
+      by-test (p x)
+      (λ t.
+      let rest = keep-keep (λ y. not (same c x y)) (fresh a) (fresh (a ++ (x ∷ []))) O (λ y m. fresh-snoc a x y) in
+      by-test (some-of (same c x) a)
+      (λ u. rw (t, u) rest)
+      (λ u. rw (t, u) (ap (λ k. x ∷ k) rest)))
+      (λ t. rw t (keep-same (fresh a) (fresh (a ++ (x ∷ []))) O
+      (λ y m.
+      let q = (of-keep p l (of-once c (keep p l) m)) .1 in
+      let n = is-false (same c x y) (λ u. no-both q (sym (ap p (w .sound x y u)) ∙ t)) in
+      sym (fresh-snoc a x y ∙ ap (λ b. not b && fresh a y) n))))
+
+  once-from : (a l : List A) → keep (fresh a) (once c (keep p l)) ≡ gather (newAt (a ++ l)) (range (length a) (length l))
+  once-from a [] = refl
+  once-from a (x ∷ l) =
+      let e : length (a ++ (x ∷ [])) ≡ suc (length a) = omega (arith, length-append a (x ∷ [])) in
+      once-here a x l
+      ∙ ap₂ _++_ (sym (new-here a x l))
+      (once-from (a ++ (x ∷ [])) l ∙ ap₂ (λ k n. gather (newAt k) (range n (length l))) (append-assoc a (x ∷ []) l) e)
+
+  -- the entries that pass, each once, are those that are new at their places
+  pub once-keep : (l : List A) → once c (keep p l) ≡ gather (newAt l) (range 0 (length l))
+  once-keep l = sym (keep-all (fresh []) (once c (keep p l)) (λ x m. refl)) ∙ once-from [] l
+
+  -- what is new at k first stands there and passes
+  pub of-newAt : (l : List A) (k : ℕ) {x : A} → x ∈ newAt l k → (place c x l ≡ k) × (p x ≡ true) × (getD l k d ≡ x)
+  unfolding newAt
+  of-newAt l k {x} m =
+      let y = getD l k d in
+      by-test (p y && eqb (place c y l) k)
+      (λ t.
+      let h = and-true (p y) (eqb (place c y l) k) t in
+      let q : x ≡ y = in-single (rw t at m) in
+      (ap (λ z. place c z l) q ∙ eqb-true (place c y l) k (h .1), ap p q ∙ h .0, sym q))
+      (λ t. not-in-nil (rw t at m))
+
+  pub newAt-place : {x : A} {l : List A} → x ∈ l → p x ≡ true → newAt l (place c x l) ≡ x ∷ []
+  unfolding newAt
+  newAt-place {x} {l} m e =
+      let q = (place-index w d m) .1 in
+      rw (q, e, eq-eqb (place c x l) (place c x l) refl)
+
+  -- what follows x: the first that is new at a later place
+  pub once-next : {x : A} {l : List A} → x ∈ l → p x ≡ true
+      → next c x (once c (keep p l)) ≡ first (gather (newAt l) (range (suc (place c x l)) (length l - suc (place c x l))))
+  once-next {x} {l} m e =
+      let k = place c x l in
+      let h = (place-index w d m) .0 in
+      let N : length l ≡ k + suc (length l - suc k) = omega arith in
+      let Z : 0 + k ≡ k = omega arith in
+      let G = gather (newAt l) (range (suc k) (length l - suc k)) in
+      let cut : once c (keep p l) ≡ gather (newAt l) (range 0 k) ++ (x ∷ G) =
+      once-keep l ∙ ap (λ n. gather (newAt l) (range 0 n)) N
+      ∙ ap (gather (newAt l)) (range-append 0 k (suc (length l - suc k)))
+      ∙ gather-append (newAt l) (range 0 k) (range (0 + k) (suc (length l - suc k)))
+      ∙ ap (λ n. gather (newAt l) (range 0 k) ++ gather (newAt l) (range n (suc (length l - suc k)))) Z
+      ∙ ap (λ b. gather (newAt l) (range 0 k) ++ (b ++ G)) (newAt-place m e) in
+      ap (next c x) cut
+      ∙ next-split w (gather (newAt l) (range 0 k)) x G
+      (λ i.
+      let r = of-gather (newAt l) (range 0 k) i in
+      let b = of-range 0 k (r .1) in
+      let q = (of-newAt l (r .0) (r .2)) .0 in
+      omega (arith, b .1))

@@ -1,0 +1,30 @@
+use denote.Ref.{now}
+use mathlib.Core.Path.{_∙_}
+use borrow.Author.Needs.{needs}
+use Rattle.components.proofs.Climbing.{copied}
+use Rattle.components.proofs.parent.Statement.{statement}
+use Rattle.components.proofs.parent.Tie as tie
+
+copy-requires : tie.Need-copy-requires
+copy-requires c κs = search needs
+
+unmerge-requires : tie.Need-unmerge-requires
+unmerge-requires c κs =
+    let copy = c .before .before .before in
+    let start = copy .before .before .before .before in
+    let e = copy .copy .ensures .1 ∙ copied (now (start .args .s)) (now (start .args .out)) (start .pre .room) in
+    record { trees = start .pre .trees; is = e ∙ start .pre .is }
+
+same-length : tie.Need-same-length
+same-length c = search needs
+
+returns : tie.Need-returns
+returns c =
+    let up = c .before .before in
+    let copy = up .before .before .before .before in
+    let start = copy .before .before .before .before in
+    let e = copy .copy .ensures .1 ∙ copied (now (start .args .s)) (now (start .args .out)) (start .pre .room) in
+    λ d q. up .unmerge .ensures d (e ∙ q)
+
+pub parent-spec : {M : Type 1} → statement M
+parent-spec = tie.close (tie.spec copy-requires unmerge-requires same-length returns)
