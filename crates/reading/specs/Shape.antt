@@ -1,0 +1,75 @@
+-- Reading a whole code in two parts: first its shape, then whether it is canonical. What the readers answer, and what they leave in the lent memory.
+use mathlib.Core.Path.{_≡_}
+use mathlib.Core.Bool.{cond, _&&_, _||_}
+use mathlib.Core.List.{List, [], _∷_}
+use Prim.Native.Nat.{ℕ, _+_, _≤_}
+use lib.Dec.{ltb, eqb}
+use lib.ListN.{length, take, drop}
+use Rattle.patterns.specs.declared.Refusal.the-variants.{Count, Truncated, Sizes, NotCanonical, Trailing}
+use Rattle.patterns.specs.System.{System, weight, canonical}
+use Rattle.patterns.specs.Reading.{Result, done, fault, andThen, readComponents}
+use Rattle.reading.specs.declared.Read.{Read}
+use Rattle.reading.specs.declared.Read.the-variants.{Past, Refused}
+use Rattle.reading.specs.declared.Accepted.{Accepted}
+use Rattle.reading.specs.declared.Accepted.the-variants.{System as Held, Refused as NotAccepted}
+use Rattle.reading.specs.Held.{Holds}
+
+-- no number is left after the system
+abbrev pub ended : System → List ℕ → Result System
+ended S [] = done S
+ended S (x ∷ rest) = fault Trailing
+
+-- as `readBody` and `readSystem` of the definitions, but for the last check
+unfoldable pub shapeBody : ℕ → List ℕ → Result System
+unfolding readComponents
+shapeBody n [] = fault Truncated
+shapeBody n (m ∷ s) =
+    let more = andThen (readComponents m n s) (λ S. ended S (drop (length S + weight S) s)) in
+    cond (ltb n m || (eqb m 0 && ltb 0 n)) (fault Sizes) more
+
+unfoldable pub shape : List ℕ → Result System
+unfolding shapeBody
+shape [] = fault Truncated
+shape (n ∷ s) =
+    let more = shapeBody n s in
+    cond (ltb 200 n) (fault Count) more
+
+-- the last check
+unfoldable pub checked : System → Result System
+unfolding canonical
+checked S =
+    let tested = canonical S in
+    cond tested (done S) (fault NotCanonical)
+
+-- the lent memory has room for m components of n points in all, and the numbers of n points fit
+pub record Room (m n : ℕ) (sizes numbers : List ℕ) : Type 0 where
+  pub components : m ≤ length sizes
+  pub points : n ≤ length numbers
+  pub small : n ≤ 200
+
+-- components read from place `at` on take a number each, and as many more as they have points
+abbrev pub walkedSystem : ℕ → Result System → Read
+walkedSystem at (done S) = Past (at + (length S + weight S))
+walkedSystem at (fault c) = Refused c
+
+-- the components were read, and the memory then holds them in its first places; after a refusal what it holds is left free
+pub record ReadInto (at : ℕ) (o : Result System) (r : Read) (sizes numbers : List ℕ) : Type 0 where
+  pub reply : r ≡ walkedSystem at o
+  pub held : (S : System) → o ≡ done S → Holds S (take (length S) sizes) (take (weight S) numbers)
+
+-- the number of components and the number of points
+abbrev pub acceptance : Result System → Accepted
+acceptance (done S) = Held (length S) (weight S)
+acceptance (fault c) = NotAccepted c
+
+-- the same for a whole code
+pub record AcceptedInto (o : Result System) (r : Accepted) (sizes numbers : List ℕ) : Type 0 where
+  pub reply : r ≡ acceptance o
+  pub held : (S : System) → o ≡ done S → Holds S (take (length S) sizes) (take (weight S) numbers)
+
+-- s has the first 403 of `count` numbers, or all of them, and the lent memory has 200 places each
+pub record FirstNumbers (s : List ℕ) (count : ℕ) (sizes numbers : List ℕ) : Type 0 where
+  pub all : List ℕ
+  pub first : s ≡ take 403 all
+  pub counted : count ≡ length all
+  pub room : (length sizes ≡ 200) × (length numbers ≡ 200)
