@@ -1,0 +1,5 @@
+-- The laws that the functions of this crate rest on.
+pub mod Merging
+pub mod Trying
+pub mod Scanning
+pub mod Following
