@@ -1,0 +1,41 @@
+-- Lists of numbers below a bound, and the length of gathered lists.
+use mathlib.Core.Path.{_≡_, refl}
+use mathlib.Core.Bool.{Bool, true}
+use mathlib.Core.List.{List, [], _∷_, _++_}
+use Prim.Native.Nat.{ℕ, suc, _+_, _-_, _≤_, _<_}
+use native.Mathlib.Omega.{arith}
+use lib.Dec.{ltb}
+use lib.ListN.{length, getD, length-append}
+use borrow.Author.Tests.{lt-ltb, ltb-true}
+use Rattle.lists.specs.Select.{each, gather, total}
+use Rattle.lists.proofs.Tests.{each-cons, each-head, each-tail}
+
+-- every number of l is below k
+abbrev pub allBelow : ℕ → List ℕ → Bool
+allBelow k l = each (λ y. ltb y k) l
+
+pub below-cons : (k x : ℕ) (l : List ℕ) → x < k → allBelow k l ≡ true → allBelow k (x ∷ l) ≡ true
+below-cons k x l h e = each-cons (λ y. ltb y k) l (lt-ltb x k h) e
+
+pub below-head : (k x : ℕ) (l : List ℕ) → allBelow k (x ∷ l) ≡ true → x < k
+below-head k x l e = ltb-true x k (each-head (λ y. ltb y k) x l e)
+
+pub below-tail : (k x : ℕ) (l : List ℕ) → allBelow k (x ∷ l) ≡ true → allBelow k l ≡ true
+below-tail k x l e = each-tail (λ y. ltb y k) x l e
+
+pub below-append : (k : ℕ) (l m : List ℕ) → allBelow k l ≡ true → allBelow k m ≡ true → allBelow k (l ++ m) ≡ true
+below-append k [] m e f = f
+below-append k (x ∷ l) m e f = below-cons k x (l ++ m) (below-head k x l e) (below-append k l m (below-tail k x l e) f)
+
+-- from a bound at every place
+pub below-at : (k : ℕ) (l : List ℕ) → ((i : ℕ) → i < length l → getD l i 0 < k) → allBelow k l ≡ true
+below-at k [] h = refl
+below-at k (x ∷ l) h = below-cons k x l (h 0 (omega arith)) (below-at k l (λ i g. h (suc i) (omega arith)))
+
+pub below-grow : (j k : ℕ) (l : List ℕ) → j ≤ k → allBelow j l ≡ true → allBelow k l ≡ true
+below-grow j k [] h e = refl
+below-grow j k (x ∷ l) h e = let g = below-head j x l e in below-cons k x l (omega arith) (below-grow j k l h (below-tail j x l e))
+
+pub length-gather : {A B : Type 0} (f : A → List B) (l : List A) → length (gather f l) ≡ total (λ x. length (f x)) l
+length-gather f [] = refl
+length-gather f (x ∷ l) = rw (length-append, length-gather f l)

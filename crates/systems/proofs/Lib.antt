@@ -1,0 +1,20 @@
+-- The theory of this layer.
+pub mod Bounds
+pub mod Sizes
+pub mod General
+pub mod Canonical
+pub mod Codes
+pub mod Firsts
+pub mod Step
+pub mod Scan
+pub mod Numbers
+pub mod Readback
+pub mod Filling
+pub mod Growing
+pub mod Parts
+pub mod Writing
+pub mod WrittenBack
+pub mod Calls
+pub mod Scanning
+pub mod Advancing
+pub mod Stepping

@@ -1,0 +1,95 @@
+-- What follows a code in the list of all codes is the step: and so the step gives the least greater code, and none where there is none.
+use mathlib.Core.Path.{_≡_, refl, sym}
+use mathlib.Core.Logic.{_⊎_}
+use mathlib.Core.List.{List, [], _∷_, _++_, map}
+use mathlib.Core.Bool.{true}
+use mathlib.Core.Option.{Option, none, some}
+use Prim.Native.Nat.{ℕ, Ordering·lt}
+use native.Mathlib.Omega.{arith}
+use lib.Dec.{eqb}
+use Rattle.lists.specs.Order.{atMost}
+use Rattle.lists.specs.Select.{first, next}
+use Rattle.lists.proofs.Tests.{by-test}
+use Rattle.lists.proofs.Permute.{total-map}
+use Rattle.lists.proofs.Members.{lawful-decides, in-list, in-middle, in-head}
+use Rattle.lists.proofs.Rising.{rising-head, rising-right}
+use Rattle.lists.proofs.Follow.{Within, in-within, within-head, within-from, within-next, within-unique, within-some, within-last, within-map, within-gather, within-some-in}
+use Rattle.patterns.specs.Component.{Component, points, compareComponent, validComponent}
+use Rattle.patterns.specs.Generation.{generation}
+use Rattle.patterns.specs.System.{System, weight, compareGenerated, inOrder, canonical, available, systems, codes, compareSystem}
+use Rattle.patterns.proofs.Trees.{compareSystem-lawful}
+use Rattle.components.specs.Successor.{successor}
+use Rattle.systems.specs.Step.{cycle, fills, bump, step}
+use Rattle.components.proofs.Generation.{generation-once}
+use Rattle.components.proofs.Successor.{successor-within}
+use Rattle.systems.proofs.General.{neighbours-gap, last-greatest}
+use Rattle.systems.proofs.Sizes.{sum, sizes-sound, sizes-within}
+use Rattle.systems.proofs.Canonical.{points-positive, generated-points, inOrder-parts, inOrder-upward, canonical-upward, in-available}
+use Rattle.systems.proofs.Codes.{compareCodes, codes-apart, codes-rise, codes-sound, codes-complete, codes-different}
+use Rattle.systems.proofs.Firsts.{pieces-start, sizes-start}
+
+-- what follows among the components that may stand to the right of p follows among all of them
+available-whole : (p c : Component) (s : ℕ) {r : Option Component} → Within c (available p s) r → Within c (generation s) r
+unfolding available
+available-whole p c s i =
+    by-test (eqb (points p) s) (λ t. within-from compareComponent p (generation s) (rw t at i)) (λ t. rw t at i)
+
+-- so what follows c there is its successor
+available-within : (p c : Component) → validComponent c ≡ true → atMost compareGenerated p c ≡ true → Within c (available p (points c)) (successor c)
+available-within p c v h =
+    let i = in-within (in-available p c v h) in
+    let e : successor c ≡ i .0 = within-unique (generation-once (points c)) (successor-within c v) (available-whole p c (points c) (i .1)) in
+    rw e (i .1)
+
+-- what follows S among the systems with its sizes
+bump-within : (p : Component) (S : System) → inOrder p S ≡ true → Within S (systems p (map points S)) (bump S)
+unfolding systems bump
+bump-within p [] e = within-head [] []
+bump-within p (c ∷ S) e =
+    let r = inOrder-parts p c S e in
+    within-gather (λ d. map (d ∷_) (systems d (map points S))) (λ d. d ∷ fills d (map points S))
+    (pieces-start p (points c) (map points S) (generated-points p c (r .1)) (points-positive c (r .0)) (inOrder-upward c S (r .2)))
+    (available-within p c (r .0) (r .1))
+    (within-map (c ∷_) (bump-within c S (r .2)))
+
+-- what follows S among all codes
+pub step-within : (S : System) → canonical S ≡ true → Within S (codes (weight S)) (step S)
+unfolding codes canonical step
+step-within S e =
+    let w : sum (map points S) ≡ weight S = total-map (λ b. b) points S in
+    let i = sizes-within (weight S) 1 (omega arith) (canonical-upward S e) (omega arith) in
+    within-gather (systems []) (map cycle)
+    (λ l m. sizes-start ((sizes-sound (weight S) 1 (weight S) m) .0))
+    (rw w at i)
+    (bump-within [] S e)
+
+-- the step gives what follows in the list of all codes
+pub step-is : (S : System) → canonical S ≡ true → next compareSystem S (codes (weight S)) ≡ step S
+step-is S e = within-next (lawful-decides compareSystem-lawful) (codes-different (weight S)) (step-within S e)
+
+-- wherever S stands in the list, the step gives what follows
+pub step-cut : (n : ℕ) (a b : List System) (S : System) → codes n ≡ a ++ (S ∷ b) → step S ≡ first b
+step-cut n a b S e =
+    let s = codes-sound n S (in-list (sym e) (in-middle a b)) in
+    within-unique (codes-different n) (rw (s .1) at (step-within S (s .0))) (record { before = a; after = b; cut = e; follows = refl })
+
+-- the step goes to a greater canonical system of as many points
+pub step-greater : (S R : System) → canonical S ≡ true → step S ≡ some R → (canonical R ≡ true) × (weight R ≡ weight S) × (compareCodes S R ≡ Ordering·lt)
+step-greater S R e f =
+    let i = rw f at (step-within S e) in
+    let s = codes-sound (weight S) R (within-some-in i) in
+    let c = within-some i in
+    (s .0, s .1, rising-head (rising-right (c .0) (S ∷ R ∷ c .1) (rw (c .2) at (codes-rise (weight S)))) in-head)
+
+-- and to the least one: whatever is greater than S is that or greater than that
+pub step-least : (S R T : System) → canonical S ≡ true → step S ≡ some R → canonical T ≡ true → weight T ≡ weight S → compareCodes S T ≡ Ordering·lt
+    → (T ≡ R) ⊎ (compareCodes R T ≡ Ordering·lt)
+step-least S R T e f g h k =
+    let c = within-some (rw f at (step-within S e)) in
+    neighbours-gap codes-apart (c .0) (c .1) (rw (c .2) at (codes-rise (weight S))) (in-list (c .2) (rw h at (codes-complete T g))) k
+
+-- where the step gives none, nothing is greater
+pub step-last : (S T : System) → canonical S ≡ true → step S ≡ none → canonical T ≡ true → weight T ≡ weight S → compareCodes S T ≡ Ordering·lt → ⊥
+step-last S T e f g h k =
+    let c = within-last (rw f at (step-within S e)) in
+    last-greatest codes-apart (c .0) (rw (c .1) at (codes-rise (weight S))) (in-list (c .1) (rw h at (codes-complete T g))) k

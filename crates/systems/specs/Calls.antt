@@ -1,0 +1,88 @@
+-- The list of codes as it is made by calls of "first code" and "successor" over a list of lent buffers: document 01, "Order of the whole list",
+-- second paragraph.
+use mathlib.Core.Path.{_≡_}
+use mathlib.Core.Bool.{Bool, true, false}
+use mathlib.Core.List.{List, [], _∷_, _++_, map}
+use Prim.Native.Nat.{ℕ, _<_}
+use lib.Dec.{leb}
+use lib.ListN.{length, take}
+use Rattle.lists.specs.Select.{keep}
+use Rattle.lists.specs.Members.{_∈_, NoDup}
+use Rattle.patterns.specs.System.{codes}
+use Rattle.patterns.specs.Written.{written}
+use Rattle.patterns.specs.Entry.{length-is, last, refused, Outcome, Replied, firstOf, successorOf}
+
+-- no code is written yet, or the bytes of the code written last
+pub data State : Type 0 where
+  fresh : State
+  wrote : List ℕ → State
+
+-- what the next call finds: "first code" for n until a code is written, and from then on "successor" of exactly that code's bytes
+abbrev pub stepOf : ℕ → State → Outcome ℕ
+stepOf n fresh = firstOf n
+stepOf n (wrote code) = successorOf code
+
+-- what one call did: it wrote these bytes, it said "last", or it was refused with this cause and this lent buffer
+pub data Call : Type 0 where
+  entry : List ℕ → Call
+  said-last : Call
+  refusal : ℕ → List ℕ → Call
+
+-- Calls n s buffers calls: from state s on, with these buffers, one for each call, the calls did this. Of a call nothing is known but what its
+-- entry promises: `Replied` of the outcome, the buffer before it, the answer and the buffer after it.
+pub data Calls (n : ℕ) : State → List (List ℕ) → List Call → Type 0 where
+  no-buffer : {s : State} → Calls n s [] []
+  writes : {s : State} {before : List ℕ} {rest : List (List ℕ)} {calls : List Call} (k : ℕ) (after : List ℕ)
+      → Replied (stepOf n s) before (length-is k) after
+      → Calls n (wrote (take k after)) rest calls → Calls n s (before ∷ rest) (entry (take k after) ∷ calls)
+  ends : {s : State} {before : List ℕ} {rest : List (List ℕ)} (after : List ℕ)
+      → Replied (stepOf n s) before last after → Calls n s (before ∷ rest) (said-last ∷ [])
+  refuses : {s : State} {before : List ℕ} {rest : List (List ℕ)} {calls : List Call} (c : ℕ) (after : List ℕ)
+      → Replied (stepOf n s) before (refused c) after
+      → Calls n s rest calls → Calls n s (before ∷ rest) (refusal c before ∷ calls)
+
+-- the codes written, in order, each as often as it was written
+abbrev pub entries : List Call → List (List ℕ)
+entries [] = []
+entries (entry b ∷ calls) = b ∷ entries calls
+entries (said-last ∷ calls) = entries calls
+entries (refusal c b ∷ calls) = entries calls
+
+-- some call said "last"
+abbrev pub ended : List Call → Bool
+ended [] = false
+ended (entry b ∷ calls) = ended calls
+ended (said-last ∷ calls) = true
+ended (refusal c b ∷ calls) = ended calls
+
+-- how many of the buffers have at least 1,000 bytes
+abbrev pub roomy : List (List ℕ) → ℕ
+roomy buffers = length (keep (λ b. leb 1000 (length b)) buffers)
+
+-- x stands in l exactly once
+pub record Once {A : Type 0} (x : A) (l : List A) : Type 0 where
+  pub before : List A
+  pub after : List A
+  pub cut : l ≡ before ++ (x ∷ after)
+  pub nowhere-else : x ∈ (before ++ after) → ⊥
+
+-- Demand 3, as one claim about a whole list of calls. `Map` is the maps of n points, `codeOf f` the bytes that "code of a map" writes for f given
+-- room, and `Renamed f g` says that there is a renaming from f to g.
+pub record Listing (n : ℕ) (Map : Type 0) (codeOf : Map → List ℕ) (Renamed : Map → Map → Type 0) (buffers : List (List ℕ)) (calls : List Call) : Type 0 where
+  -- every entry stands for a map
+  pub entry-map : (b : List ℕ) → b ∈ entries calls → (f : Map) × (codeOf f ≡ b)
+  -- no two entries are equal
+  pub different : NoDup (entries calls)
+  -- where a call said "last", every map's code is an entry, exactly once
+  pub complete : ended calls ≡ true → (f : Map) → Once (codeOf f) (entries calls)
+  -- two maps have one code exactly if one is a renaming of the other
+  pub one-code : (f g : Map) → Renamed f g → codeOf f ≡ codeOf g
+  pub renamed : (f g : Map) → codeOf f ≡ codeOf g → Renamed f g
+  -- a refused call had cause 8 and a buffer of fewer than 1,000 bytes
+  pub refusals : (c : ℕ) (b : List ℕ) → refusal c b ∈ calls → (c ≡ 8) × (length b < 1000)
+  -- if more buffers have at least 1,000 bytes than the maps have different codes, a call says "last"
+  pub enough : (D : List (List ℕ)) → ((f : Map) → codeOf f ∈ D) → length D < roomy buffers → ended calls ≡ true
+  -- the entries are the list of all codes of n points from its first on, and all of it where a call said "last"
+  pub later : List (List ℕ)
+  pub in-order : map written (codes n) ≡ entries calls ++ later
+  pub whole : ended calls ≡ true → later ≡ []
