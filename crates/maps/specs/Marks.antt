@@ -1,0 +1,33 @@
+-- Points on cycles: where a walk leads, and marks that tell the points on cycles from the others.
+use mathlib.Core.Path.{_≡_}
+use mathlib.Core.Bool.{true, cond}
+use mathlib.Core.List.{List}
+use Prim.Native.Nat.{ℕ, zero, suc, _<_}
+use lib.ListN.{length, getD}
+use Rattle.patterns.specs.Table.{image, isTable, onCycle}
+
+-- k steps from x
+abbrev pub iterate : (ℕ → ℕ) → ℕ → ℕ → ℕ
+iterate f zero x = x
+iterate f (suc k) x = iterate f k (f x)
+
+-- x is a point of the table f
+pub record PointOf (f : List ℕ) (x : ℕ) : Type 0 where
+  pub table : isTable f ≡ true
+  pub here : x < length f
+
+-- a table, and room for one mark for each point
+pub record MarksAsked (f marks : List ℕ) : Type 0 where
+  pub table : isTable f ≡ true
+  pub room : length marks ≡ length f
+
+-- the points on cycles are marked by 1, the others by 0
+pub record Marked (f marks : List ℕ) : Type 0 where
+  pub same : length marks ≡ length f
+  pub marks-are : (x : ℕ) → x < length f → getD marks x 0 ≡ cond (onCycle (length f) (image f) x) 1 0
+
+-- x is a point of a table whose points on cycles are marked
+pub record MarkedPoint (f marks : List ℕ) (x : ℕ) : Type 0 where
+  pub table : isTable f ≡ true
+  pub marked : Marked f marks
+  pub here : x < length f
