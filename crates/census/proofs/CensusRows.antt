@@ -1,0 +1,170 @@
+-- The rows of a table that counts the cycles of a map by their length are a census of the map, at most 19 for at most 200 points, and the
+-- greatest of their lengths is the longest cycle.
+use mathlib.Core.Path.{_≡_, refl, ap, sym, _∙_}
+use mathlib.Core.List.{List, [], _∷_, map}
+use mathlib.Core.Bool.{cond, not}
+use Prim.Native.Nat.{ℕ, zero, suc, _-_, _≤_, _<_}
+use native.Mathlib.Omega.{arith}
+use lib.Dec.{eqb}
+use borrow.Author.Tests.{eqb-true, eqb-false, ne-eqb}
+use lib.ListN.{length, getD, take, drop, length-map, length-append}
+use lib.Seq.{take-at, length-take-le, getD-take}
+use Rattle.lists.specs.Select.{range, times}
+use Rattle.lists.proofs.Tests.{_∈_, by-test, not-of-true}
+use Rattle.lists.proofs.Members.{in-range, of-range, in-keep, of-keep, nodup-keep, nodup-range}
+use Rattle.lists.proofs.Places.{times-nodup, times-out}
+use Rattle.patterns.specs.Table.{image}
+use Rattle.patterns.specs.Census.{greatest, Row, cycleLengths, cyclesOf, height, longestCycle, Census}
+use Rattle.maps.proofs.General.{map-same}
+use Rattle.maps.proofs.Orbits.{orbit-length}
+use Rattle.maps.proofs.Leaders.{cycle-period, leader-onCycle}
+use Rattle.maps.proofs.CensusTheory.{greatest-bound, greatest-in, of-cycleLengths, cycleLengths-positive, occurs, occurs-not, census-fits}
+use Rattle.census.specs.Counts.{Counts}
+use Rattle.census.specs.declared.Rows.{Rows}
+use Rattle.census.specs.Rows.{counted, rowsOf, rowsIn, Room, Listed, CensusOf}
+
+positive : (k : ℕ) → (k ≡ 0 → ⊥) → 0 < k
+positive zero h = absurd (h refl)
+positive (suc k) h = omega arith
+
+-- the lengths and the counts of rows side by side
+rows-lengths : (ls cs : List ℕ) → length ls ≡ length cs → map (λ (r : Row). r .cycleLength) (rowsOf ls cs) ≡ ls
+rows-lengths [] cs e = refl
+rows-lengths (l ∷ ls) [] e = absurd (omega arith)
+rows-lengths (l ∷ ls) (c ∷ cs) e = ap (λ r. l ∷ r) (rows-lengths ls cs (omega arith))
+
+rows-counts : (ls cs : List ℕ) → length ls ≡ length cs → map (λ (r : Row). r .cycles) (rowsOf ls cs) ≡ cs
+rows-counts [] [] e = refl
+rows-counts [] (c ∷ cs) e = absurd (omega arith)
+rows-counts (l ∷ ls) [] e = absurd (omega arith)
+rows-counts (l ∷ ls) (c ∷ cs) e = ap (λ r. c ∷ r) (rows-counts ls cs (omega arith))
+
+rows-map : (g : ℕ → ℕ) (rows : List Row) → map (λ (r : Row). g (r .cycleLength)) rows ≡ map g (map (λ (r : Row). r .cycleLength) rows)
+rows-map g [] = refl
+rows-map g (r ∷ rows) = ap (λ l. g (r .cycleLength) ∷ l) (rows-map g rows)
+
+rows-length : (ls cs : List ℕ) → length ls ≡ length cs → length (rowsOf ls cs) ≡ length ls
+rows-length ls cs e = sym (length-map (rowsOf ls cs) (λ (r : Row). r .cycleLength)) ∙ ap length (rows-lengths ls cs e)
+
+rows-at : (ls cs : List ℕ) (i : ℕ) (d : Row) → i < length ls → i < length cs
+    → getD (rowsOf ls cs) i d ≡ record { cycleLength = getD ls i 0; cycles = getD cs i 0 }
+rows-at [] cs i d h k = absurd (omega arith)
+rows-at (l ∷ ls) [] i d h k = absurd (omega arith)
+rows-at (l ∷ ls) (c ∷ cs) zero d h k = refl
+rows-at (l ∷ ls) (c ∷ cs) (suc i) d h k = rows-at ls cs i d (omega arith) (omega arith)
+
+-- r holds as many rows as it says, if there are so many places
+pub rowsIn-length : (r : Rows) → r .rows ≤ length (r .lengths) → r .rows ≤ length (r .counts) → length (rowsIn r) ≡ r .rows
+rowsIn-length r h k =
+    let a = length-take-le (r .rows) (r .lengths) h in
+    let b = length-take-le (r .rows) (r .counts) k in
+    rows-length (take (r .rows) (r .lengths)) (take (r .rows) (r .counts)) (a ∙ sym b) ∙ a
+
+-- and its row i stands at place i of both
+pub rowsIn-at : (r : Rows) (i : ℕ) (d : Row) → i < r .rows → r .rows ≤ length (r .lengths) → r .rows ≤ length (r .counts)
+    → getD (rowsIn r) i d ≡ record { cycleLength = getD (r .lengths) i 0; cycles = getD (r .counts) i 0 }
+rowsIn-at r i d h a b =
+    rows-at (take (r .rows) (r .lengths)) (take (r .rows) (r .counts)) i d
+    (omega (arith, length-take-le (r .rows) (r .lengths) a)) (omega (arith, length-take-le (r .rows) (r .counts) b))
+    ∙ rw (getD-take (r .rows) (r .lengths) i 0 h, getD-take (r .rows) (r .counts) i 0 h)
+
+-- the greatest number depends on the members alone
+greatest-inside : (l m : List ℕ) → ((x : ℕ) → x ∈ l → x ∈ m) → greatest l ≤ greatest m
+greatest-inside [] m h = omega arith
+greatest-inside (x ∷ l) m h = greatest-bound (h (greatest (x ∷ l)) (greatest-in x l))
+
+greatest-same : (l m : List ℕ) → ((x : ℕ) → x ∈ l → x ∈ m) → ((x : ℕ) → x ∈ m → x ∈ l) → greatest l ≡ greatest m
+greatest-same l m h k = let a = greatest-inside l m h in let b = greatest-inside m l k in omega arith
+
+-- what stands in the first places
+module _ {table lengths₀ counts₀ lengths counts : List ℕ} {rows : ℕ} (d : Listed table lengths₀ counts₀ rows lengths counts) where
+  pub listed-lengths : take rows lengths ≡ counted table
+  listed-lengths = ap (take rows) (d .lengths-are) ∙ take-at (counted table) (drop rows lengths₀) rows (sym (d .many))
+
+  pub listed-counts : take rows counts ≡ map (λ l. getD table l 0) (counted table)
+  listed-counts =
+      ap (take rows) (d .counts-are)
+      ∙ take-at (map (λ l. getD table l 0) (counted table)) (drop rows counts₀) rows (length-map (counted table) (λ l. getD table l 0) ∙ sym (d .many))
+
+  pub listed-within : rows ≤ length lengths
+  listed-within = omega (arith, d .many, ap length (d .lengths-are), length-append (counted table) (drop rows lengths₀))
+
+module _ (f table : List ℕ) (c : Counts f table) (inside : (x : ℕ) → x < length f → image f x < length f) where
+  -- a number is counted exactly if it is the length of a cycle
+  pub counted-occurs : (l : ℕ) → l ∈ counted table → l ∈ cycleLengths (length f) (image f)
+  counted-occurs l m =
+      let r = of-keep (λ k. not (eqb (getD table k 0) 0)) (range 1 (length table - 1)) m in
+      let s = of-range 1 (length table - 1) (r .0) in
+      let e = eqb-false (getD table l 0) 0 (not-of-true (eqb (getD table l 0) 0) (r .1)) in
+      let q = c .count l (omega arith) (omega (arith, c .size)) in
+      occurs (length f) (image f) l (positive (cyclesOf (length f) (image f) l) (λ z. e (q ∙ z)))
+
+  pub occurs-counted : (l : ℕ) → l ∈ cycleLengths (length f) (image f) → l ∈ counted table
+  occurs-counted l m =
+      let p = cycleLengths-positive (length f) (image f) l m in
+      let r = of-cycleLengths (length f) (image f) m in
+      let s = cycle-period (length f) (image f) (r .0) (leader-onCycle (length f) (image f) inside (r .1)) in
+      let b : l ≤ length f = omega (arith, r .2, ap length (s .3), orbit-length (image f) (s .0) (r .0), s .1) in
+      let q = c .count l p b in
+      in-keep (λ k. not (eqb (getD table k 0) 0)) (in-range 1 (length table - 1) (omega arith) (omega (arith, c .size)))
+      (rw (ne-eqb (getD table l 0) 0 (λ e. occurs-not (length f) (image f) l (sym q ∙ e) m)))
+
+  -- the counts of the counted lengths
+  counted-counts : map (λ l. getD table l 0) (counted table) ≡ map (cyclesOf (length f) (image f)) (counted table)
+  counted-counts =
+      map-same (λ l. getD table l 0) (cyclesOf (length f) (image f)) (counted table)
+      (λ l m. let s = of-range 1 (length table - 1) ((of-keep (λ k. not (eqb (getD table k 0) 0)) (range 1 (length table - 1)) m) .0) in
+      c .count l (omega arith) (omega (arith, c .size)))
+
+  counted-once : (l : ℕ) → times l (counted table) ≡ cond (eqb (cyclesOf (length f) (image f) l) 0) 0 1
+  counted-once l =
+      by-test (eqb (cyclesOf (length f) (image f) l) 0)
+      (λ t. rw t (times-out l (counted table) (λ m. occurs-not (length f) (image f) l (eqb-true (cyclesOf (length f) (image f) l) 0 t) (counted-occurs l m))))
+      (λ t. let b = eqb-false (cyclesOf (length f) (image f) l) 0 t in
+      rw t (times-nodup (nodup-keep (λ k. not (eqb (getD table k 0) 0)) (nodup-range 1 (length table - 1)))
+      (occurs-counted l (occurs (length f) (image f) l (positive (cyclesOf (length f) (image f) l) b)))))
+
+  -- the rows of the table are a census
+  pub counted-census : Census (length f) (image f) (rowsOf (counted table) (map (λ l. getD table l 0) (counted table)))
+  counted-census =
+      let ls : List ℕ = counted table in
+      let cs : List ℕ = map (λ l. getD table l 0) ls in
+      let e : length ls ≡ length cs = sym (length-map ls (λ l. getD table l 0)) in
+      record {
+        once = λ l. ap (times l) (rows-lengths ls cs e) ∙ counted-once l;
+        counted = rows-counts ls cs e ∙ counted-counts ∙ sym (rows-map (cyclesOf (length f) (image f)) (rowsOf ls cs)
+            ∙ ap (map (cyclesOf (length f) (image f))) (rows-lengths ls cs e));
+      }
+
+  -- there are at most 19
+  pub counted-few : length f ≤ 200 → length (counted table) ≤ 19
+  counted-few h =
+      let ls : List ℕ = counted table in
+      let cs : List ℕ = map (λ l. getD table l 0) ls in
+      let e : length ls ≡ length cs = sym (length-map ls (λ l. getD table l 0)) in
+      omega (arith, rows-length ls cs e, census-fits (length f) (image f) inside (rowsOf ls cs) counted-census h)
+
+  -- the greatest counted length is the longest cycle
+  pub counted-longest : greatest (counted table) ≡ longestCycle (length f) (image f)
+  unfolding longestCycle
+  counted-longest = greatest-same (counted table) (cycleLengths (length f) (image f)) counted-occurs occurs-counted
+
+  -- 19 places are room for the rows
+  pub counted-room : length f ≤ 200 → {lengths counts : List ℕ} → length lengths ≡ 19 → length counts ≡ 19 → Room table lengths counts
+  counted-room h a b =
+      let k = counted-few h in
+      record { some = omega (arith, c .size); bytes = omega (arith, c .size); lengths-room = omega arith; counts-room = omega arith }
+
+  -- the rows listed, the height and the greatest length listed are the census
+  pub census-listed : length f ≤ 200 → {lengths₀ counts₀ lengths counts : List ℕ} {rows h l : ℕ} → Listed table lengths₀ counts₀ rows lengths counts
+      → h ≡ height (length f) (image f) → l ≡ greatest (take rows lengths)
+      → CensusOf f (record { lengths = lengths; counts = counts; rows = rows; height = h; longest = l })
+  census-listed small {lengths₀} {counts₀} {lengths} {counts} {rows} d e g =
+      let ls : take rows lengths ≡ counted table = listed-lengths d in
+      let cs : take rows counts ≡ map (λ k. getD table k 0) (counted table) = listed-counts d in
+      record {
+        isCensus = rw (ls, cs) counted-census;
+        few = omega (arith, d .many, counted-few small);
+        height-is = e;
+        longest-is = g ∙ ap greatest ls ∙ counted-longest;
+      }

@@ -1,0 +1,8 @@
+-- The laws of the census's walks, counts and rows, in plain terms; the proofs of the functions cite them.
+pub mod CensusRows
+pub mod Counting
+pub mod Listing
+pub mod Maxima
+pub mod Points
+pub mod Walking
+pub mod Stepping

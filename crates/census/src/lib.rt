@@ -1,0 +1,165 @@
+// The census of a map in running code [document 01, "Refusing", last but one paragraph]: which cycle lengths occur and how often, the greatest
+// distance of a point from its cycle, and the longest cycle.
+ghost use denote.Ref.{now};
+ghost use mathlib.Core.Path.{_≡_};
+ghost use mathlib.Core.Bool.{true};
+ghost use Prim.Native.Nat.{_<_, _≤_};
+ghost use lib.ListN.{length, replicate};
+ghost use Rattle.patterns.specs.Table.{image, isTable};
+ghost use Rattle.patterns.specs.Census.{stepsToCycle, height as heightOf, greatest as greatestOf};
+ghost use Rattle.maps.specs.Marks.{Marked, MarkedPoint};
+ghost use Rattle.census.specs.Counts.{lengthLed, Blank, Counts};
+ghost use Rattle.census.specs.Rows.{Room, Listed, CensusOf};
+
+// Row i, i below `rows`: `counts[i]` cycles have `lengths[i]` points.
+pub struct Rows {
+    pub lengths: [u8; 19],
+    pub counts: [u8; 19],
+    pub rows: usize,
+    pub height: usize,
+    pub longest: usize,
+}
+
+// The length of the cycle whose least point is `x`, and 0 where there is none.
+fn length_led(f: &[u8], marks: &[u8], x: usize) -> usize
+    requires { ⌜ MarkedPoint (now f) (now marks) x ⌝ }
+    ensures { λ r. ⌜ r ≡ lengthLed (length (now (f .entry))) (image (now (f .entry))) x ⌝ }
+{
+    if marks[x] == 0 {
+        return 0;
+    }
+    let mut length = 1;
+    let mut y = f[x] as usize;
+    while y != x {
+        if y < x {
+            return 0;
+        }
+        y = f[y] as usize;
+        length += 1;
+    }
+    length
+}
+
+// Counts the cycles by their length: `counts[l]` for l from 1 on. `counts[0]` counts the points that lead no cycle.
+fn count_cycles(f: &[u8], marks: &[u8], counts: &mut [u8])
+    requires { ⌜ Blank (now f) (now marks) (now counts) ⌝ }
+    ensures { λ r. ⌜ Counts (now (f .entry)) (now (counts .exit)) ⌝ }
+{
+    let mut x = 0;
+    while x < f.len() {
+        let l = length_led(f, marks, x);
+        counts[l] += 1;
+        x += 1;
+    }
+}
+
+// The rows of a table of counts, by rising length.
+fn list_rows(table: &[u8], lengths: &mut [u8], counts: &mut [u8]) -> usize
+    requires { ⌜ Room (now table) (now lengths) (now counts) ⌝ }
+    ensures { λ r. ⌜ Listed (now (table .entry)) (now (lengths .entry)) (now (counts .entry)) r (now (lengths .exit)) (now (counts .exit)) ⌝ }
+{
+    let top = table.len() - 1;
+    let mut rows = 0;
+    let mut l = 1;
+    while l <= top {
+        let count = table[l];
+        if count != 0 {
+            lengths[rows] = l as u8;
+            counts[rows] = count;
+            rows += 1;
+        }
+        l += 1;
+    }
+    rows
+}
+
+// The steps from `x` to its cycle.
+fn steps_to_cycle(f: &[u8], marks: &[u8], x: usize) -> usize
+    requires { ⌜ MarkedPoint (now f) (now marks) x ⌝ }
+    ensures { λ r. ⌜ r ≡ stepsToCycle (length (now (f .entry))) (image (now (f .entry))) (length (now (f .entry))) x ⌝ }
+{
+    let mut steps = 0;
+    let mut y = x;
+    while marks[y] == 0 {
+        y = f[y] as usize;
+        steps += 1;
+    }
+    steps
+}
+
+// The greatest distance of a point from its cycle.
+fn height(f: &[u8], marks: &[u8]) -> usize
+    requires { ⌜ (isTable (now f) ≡ true) × Marked (now f) (now marks) ⌝ }
+    ensures { λ r. ⌜ r ≡ heightOf (length (now (f .entry))) (image (now (f .entry))) ⌝ }
+{
+    let mut most = 0;
+    let mut x = 0;
+    while x < f.len() {
+        let steps = steps_to_cycle(f, marks, x);
+        if most <= steps {
+            most = steps;
+        }
+        x += 1;
+    }
+    most
+}
+
+// The greatest number of `s`, and 0 where it has none.
+fn greatest(s: &[u8]) -> usize
+    ensures { λ r. ⌜ r ≡ greatestOf (now (s .entry)) ⌝ }
+{
+    let mut most = 0;
+    let mut i = 0;
+    while i < s.len() {
+        let x = s[i] as usize;
+        if most <= x {
+            most = x;
+        }
+        i += 1;
+    }
+    most
+}
+
+fn no_points() -> [u8; 201]
+    ensures { λ r. ⌜ r ≡ replicate 201 0 ⌝ }
+{
+    [0u8; 201]
+}
+
+fn no_rows() -> [u8; 19]
+    ensures { λ r. ⌜ length r ≡ 19 ⌝ }
+{
+    [0u8; 19]
+}
+
+// The census of the table `f` with its marks; `table` has a place for the count of each length.
+fn take_census(f: &[u8], marks: &[u8], table: &mut [u8]) -> Rows
+    requires { ⌜ Blank (now f) (now marks) (now table) ⌝ }
+    ensures { λ r. ⌜ CensusOf (now (f .entry)) r ⌝ }
+{
+    let mut lengths = no_rows();
+    let mut counts = no_rows();
+    count_cycles(f, marks, table);
+    let rows = list_rows(table, &mut lengths[..19], &mut counts[..19]);
+    let longest = greatest(&lengths[..rows]);
+    let height = height(f, marks);
+    Rows {
+        lengths,
+        counts,
+        rows,
+        height,
+        longest,
+    }
+}
+
+// The census of the table `f`, which has at most 200 points.
+pub fn census(f: &[u8]) -> Rows
+    requires { ⌜ (isTable (now f) ≡ true) × (length (now f) ≤ 200) ⌝ }
+    ensures { λ r. ⌜ CensusOf (now (f .entry)) r ⌝ }
+{
+    let n = f.len();
+    let mut marks = no_points();
+    let mut table = no_points();
+    maps::mark_cycles(f, &mut marks[..n]);
+    take_census(f, &marks[..n], &mut table[..n + 1])
+}
