@@ -1,0 +1,57 @@
+-- The promises of the entries, as the code states them, are what the theorems speak of: each holds by itself.
+use contract.Lifetimes.{Lfts}
+use borrow.Fn.Kinds.{Dens}
+use denote.Ref.{now}
+use mathlib.Core.Path.{_≡_}
+use Rattle.patterns.specs.Entry.{Replied, acceptOf, firstOf, successorOf, codeOfMap, mapOfCode, IsomorphismReplied}
+use Rattle.written.specs.Putting.{answerOf}
+use Rattle.engine.specs.Answers.{successorAnswer, isomorphismAnswer, censusAnswer}
+use Rattle.engine.specs.Rows.{RowsReplied}
+use Rattle.engine.proofs.accept.Reads as accept
+use Rattle.engine.proofs.accept.Kinds as accept-kinds
+use Rattle.engine.proofs.first.Reads as first
+use Rattle.engine.proofs.first.Kinds as first-kinds
+use Rattle.engine.proofs.successor.Reads as successor
+use Rattle.engine.proofs.successor.Kinds as successor-kinds
+use Rattle.engine.proofs.code_of_map.Reads as code-of-map
+use Rattle.engine.proofs.code_of_map.Kinds as code-of-map-kinds
+use Rattle.engine.proofs.map_of_code.Reads as map-of-code
+use Rattle.engine.proofs.map_of_code.Kinds as map-of-code-kinds
+use Rattle.engine.proofs.isomorphism.Reads as isomorphism
+use Rattle.engine.proofs.isomorphism.Kinds as isomorphism-kinds
+use Rattle.engine.proofs.census.Reads as census
+use Rattle.engine.proofs.census.Kinds as census-kinds
+
+-- `accept`: the reply
+pub accept-promise : (κs : Lfts 1) (a : Dens κs accept-kinds.ps) (r : _) (s : _) → accept.Post κs a r s → answerOf r ≡ acceptOf (now (a .0))
+accept-promise κs a r s p = p
+
+-- `first`: what one call of "first code" did
+pub first-promise : (κs : Lfts 1) (a : Dens κs first-kinds.ps) (r : _) (s : _) → first.Post κs a r s
+    → Replied (firstOf (a .0)) (now (a .1 .0)) (answerOf r) (now (s .1 .0))
+first-promise κs a r s p = p
+
+-- `successor`
+pub successor-promise : (κs : Lfts 2) (a : Dens κs successor-kinds.ps) (r : _) (s : _) → successor.Post κs a r s
+    → Replied (successorOf (now (a .0))) (now (a .1 .0)) (successorAnswer r) (now (s .1 .0))
+successor-promise κs a r s p = p
+
+-- `code_of_map`
+pub code-of-map-promise : (κs : Lfts 2) (a : Dens κs code-of-map-kinds.ps) (r : _) (s : _) → code-of-map.Post κs a r s
+    → Replied (codeOfMap (now (a .0))) (now (a .1 .0)) (answerOf r) (now (s .1 .0))
+code-of-map-promise κs a r s p = p
+
+-- `map_of_code`
+pub map-of-code-promise : (κs : Lfts 2) (a : Dens κs map-of-code-kinds.ps) (r : _) (s : _) → map-of-code.Post κs a r s
+    → Replied (mapOfCode (now (a .0))) (now (a .1 .0)) (answerOf r) (now (s .1 .0))
+map-of-code-promise κs a r s p = p
+
+-- `isomorphism`
+pub isomorphism-promise : (κs : Lfts 3) (a : Dens κs isomorphism-kinds.ps) (r : _) (s : _) → isomorphism.Post κs a r s
+    → IsomorphismReplied (now (a .0)) (now (a .1 .0)) (now (a .1 .1 .0)) (isomorphismAnswer r) (now (s .1 .1 .0))
+isomorphism-promise κs a r s p = p
+
+-- `census`
+pub census-promise : (κs : Lfts 3) (a : Dens κs census-kinds.ps) (r : _) (s : _) → census.Post κs a r s
+    → RowsReplied (now (a .0)) (now (a .1 .0)) (now (a .1 .1 .0)) (censusAnswer r) (now (s .1 .0)) (now (s .1 .1 .0))
+census-promise κs a r s p = p

@@ -1,0 +1,145 @@
+-- What follows from the promises of the entries: the map of a code has that code; the isomorphism that is written is one; and two maps have the same
+-- code exactly if "none" is not the reply.
+use mathlib.Core.Path.{_≡_, refl, ap, sym, _∙_, subst}
+use mathlib.Core.Bool.{true}
+use mathlib.Core.List.{List}
+use Prim.Native.Nat.{ℕ, _≤_}
+use native.Mathlib.Omega.{arith}
+use lib.Dec.{leb}
+use lib.ListN.{length, take, drop}
+use lib.Seq.{take-at}
+use borrow.Author.Tests.{le-ltb, le-leb}
+use Rattle.lists.proofs.Tests.{by-test}
+use Rattle.patterns.specs.declared.Refusal.{Refusal}
+use Rattle.patterns.specs.System.{System, weight}
+use Rattle.patterns.specs.Written.{written}
+use Rattle.patterns.specs.MapOf.{mapOf}
+use Rattle.patterns.specs.Table.{isTable, systemOfTable}
+use Rattle.patterns.specs.Isomorphism.{Isomorphism}
+use Rattle.patterns.specs.Reading.{Result, done, fault, accepted}
+use Rattle.patterns.specs.Entry.{Answer, length-is, none-exists, refused, Outcome, gives, ends, lacks, fails, outcome, answered, Replied, checkedTable, codeOfMap, mapOfCode, Isomorphic, IsomorphismReplied, first-refused, second-refused, found, lengths-differ, not-found}
+use Rattle.systems.proofs.Bounds.{allBelow}
+use Rattle.systems.proofs.WrittenBack.{accepted-is, written-equal}
+use Rattle.maps.proofs.MapOf.{length-mapOf, mapOf-table}
+use Rattle.maps.proofs.Theorems.{table-canonical, table-weight, system-of-map, renaming-system, system-same-isomorphic}
+use Rattle.engine.specs.Tables.{Table}
+use Rattle.engine.proofs.Tables.{checked-table}
+
+-- a length is the reply only where there is a result, which then stands in the first places
+pub result-written : (o : Outcome ℕ) {before after : List ℕ} {n : ℕ} → Replied o before (length-is n) after
+    → (l : List ℕ) × (o ≡ gives l) × (n ≡ length l) × (take n after ≡ l)
+result-written (gives l) {before} {after} {n} p =
+    by-test (leb (length l) (length before))
+    (λ e.
+    let q : length-is n ≡ length-is (length l) = p .reply ∙ rw e in
+    let k : n ≡ length l = cc in
+    (l, refl, k, ap (take n) (p .output ∙ rw e) ∙ take-at l (drop (length l) before) n (sym k)))
+    (λ e. let q : length-is n ≡ refused 8 = p .reply ∙ rw e in absurd (let z : _≡_ {A = ℕ} 0 1 = cc in omega arith))
+result-written ends p = let q = p .reply in absurd (let z : _≡_ {A = ℕ} 0 1 = cc in omega arith)
+result-written lacks p = let q = p .reply in absurd (let z : _≡_ {A = ℕ} 0 1 = cc in omega arith)
+result-written (fails c) p = let q = p .reply in absurd (let z : _≡_ {A = ℕ} 0 1 = cc in omega arith)
+
+-- the code of a table that passes the checks
+pub code-gives : (f : List ℕ) → length f ≤ 200 → isTable f ≡ true → codeOfMap f ≡ gives (written (systemOfTable f))
+unfolding codeOfMap checkedTable
+code-gives f h t = rw (le-ltb 200 (length f) h, t)
+
+-- The map that "map of a code" writes has that code.
+pub map-has-code : (b : List ℕ) {before after : List ℕ} {n : ℕ} → allBelow 256 b ≡ true → Replied (mapOfCode b) before (length-is n) after
+    → codeOfMap (take n after) ≡ gives b
+unfolding mapOfCode
+map-has-code b {before} {after} {n} h p = of (accepted b) refl p
+  where
+    of : (o : Result System) → accepted b ≡ o → Replied (outcome o (λ S. gives (mapOf S))) before (length-is n) after → codeOfMap (take n after) ≡ gives b
+    of (done S) e q =
+        let r = result-written (gives (mapOf S)) q in
+        let t : take n after ≡ mapOf S = let z = r .1 in r .3 ∙ (let y : r .0 ≡ mapOf S = cc in y) in
+        let c = accepted-is b S h e in
+        ap codeOfMap t
+        ∙ code-gives (mapOf S) (omega (arith, length-mapOf S, c .2)) (mapOf-table S)
+        ∙ ap (λ R. gives (written R)) (system-of-map S (c .1))
+        ∙ ap gives (sym (c .0))
+    of (fault c) e q = let z = result-written (fails c) q in absurd (let y = z .1 in let w : _≡_ {A = ℕ} 0 1 = cc in omega arith)
+
+-- given room, the code of a map is what "code of a map" writes
+pub code-fills : (f : List ℕ) {before after : List ℕ} {a : Answer} → length f ≤ 200 → isTable f ≡ true → Replied (codeOfMap f) before a after
+    → length (written (systemOfTable f)) ≤ length before
+    → (a ≡ length-is (length (written (systemOfTable f)))) × (take (length (written (systemOfTable f))) after ≡ written (systemOfTable f))
+code-fills f {before} {after} {a} h t p room =
+    let b = written (systemOfTable f) in
+    let q = rw (code-gives f h t) at p in
+    let e = le-leb (length b) (length before) room in
+    (q .reply ∙ rw e, ap (take (length b)) (q .output ∙ rw e) ∙ take-at b (drop (length b) before) (length b) refl)
+
+-- an isomorphism or none: what was found where a length is the reply
+found-gives : (f g l : List ℕ) → Isomorphic f g (gives l) → Isomorphism (length f) f g l
+found-gives f g l (found p q e i) = i
+
+-- The table that "isomorphism" writes is an isomorphism from the first map to the second.
+pub isomorphism-written : {f g before after : List ℕ} {n : ℕ} → IsomorphismReplied f g before (length-is n) after
+    → (n ≡ length f) × Isomorphism n f g (take n after)
+isomorphism-written {f} {g} {before} {after} {n} p =
+    let r = result-written (p .found) (p .replied) in
+    let i : Isomorphism (length f) f g (r .0) = found-gives f g (r .0) (rw (r .1) at (p .isomorphic)) in
+    let e : n ≡ length f = r .2 ∙ i .points in
+    (e, subst (λ k. Isomorphism k f g (take n after)) (sym e) (subst (Isomorphism (length f) f g) (sym (r .3)) i))
+
+module _ (f g : List ℕ) (c : checkedTable f ≡ done f) (d : checkedTable g ≡ done g) where
+  first-table : Table f
+  first-table = checked-table f c
+
+  second-table : Table g
+  second-table = checked-table g d
+
+  first-fails : {r : Refusal} → checkedTable f ≡ fault r → ⊥
+  first-fails e = let y = sym c ∙ e in let z : _≡_ {A = ℕ} 0 1 = cc in omega arith
+
+  second-fails : {r : Refusal} → checkedTable g ≡ fault r → ⊥
+  second-fails e = let y = sym d ∙ e in let z : _≡_ {A = ℕ} 0 1 = cc in omega arith
+
+  first-weight : weight (systemOfTable f) ≡ length f
+  first-weight = table-weight (length f) f refl (first-table .table)
+
+  second-weight : weight (systemOfTable g) ≡ length g
+  second-weight = table-weight (length g) g refl (second-table .table)
+
+  same-systems : codeOfMap f ≡ codeOfMap g → systemOfTable f ≡ systemOfTable g
+  same-systems e =
+      let y = sym (code-gives f (first-table .small) (first-table .table)) ∙ e ∙ code-gives g (second-table .small) (second-table .table) in
+      let w : written (systemOfTable f) ≡ written (systemOfTable g) = cc in
+      written-equal (systemOfTable f) (systemOfTable g) (table-canonical (length f) f refl (first-table .table))
+      (table-canonical (length g) g refl (second-table .table))
+      (omega (arith, first-weight, first-table .small)) (omega (arith, second-weight, second-table .small)) w
+
+  same-codes : systemOfTable f ≡ systemOfTable g → codeOfMap f ≡ codeOfMap g
+  same-codes e =
+      code-gives f (first-table .small) (first-table .table)
+      ∙ ap (λ S. gives (written S)) e
+      ∙ sym (code-gives g (second-table .small) (second-table .table))
+
+  -- Two maps with the same code: the reply is not "none".
+  pub same-code-found : {before after : List ℕ} → codeOfMap f ≡ codeOfMap g → IsomorphismReplied f g before none-exists after → ⊥
+  same-code-found {before} {after} e p = of (p .found) (p .isomorphic) (p .replied .reply)
+    where
+      of : (o : Outcome ℕ) → Isomorphic f g o → none-exists ≡ answered o before → ⊥
+      of o (first-refused q) k = first-fails q
+      of o (second-refused q u) k = second-fails u
+      of o (found {r = r} q u l i) k =
+          by-test (leb (length r) (length before))
+          (λ t. let y : none-exists ≡ length-is (length r) = k ∙ rw t in let z : _≡_ {A = ℕ} 0 1 = cc in omega arith)
+          (λ t. let y : none-exists ≡ refused 8 = k ∙ rw t in let z : _≡_ {A = ℕ} 0 1 = cc in omega arith)
+      of o (lengths-differ q u h) k = h (sym first-weight ∙ ap weight (same-systems e) ∙ second-weight)
+      of o (not-found q u l h) k =
+          let i = system-same-isomorphic (length f) f g refl (first-table .table) (sym l) (second-table .table) (same-systems e) in
+          h (i .0) (i .1)
+
+  -- Two maps with different codes: the reply is "none".
+  pub other-code-none : {before after : List ℕ} {a : Answer} → (codeOfMap f ≡ codeOfMap g → ⊥) → IsomorphismReplied f g before a after → a ≡ none-exists
+  other-code-none {before} {after} {a} h p = of (p .found) (p .isomorphic) (p .replied .reply)
+    where
+      of : (o : Outcome ℕ) → Isomorphic f g o → a ≡ answered o before → a ≡ none-exists
+      of o (first-refused q) k = absurd (first-fails q)
+      of o (second-refused q u) k = absurd (second-fails u)
+      of o (found {r = r} q u l i) k = absurd (h (same-codes (renaming-system (length f) f g r refl (first-table .table) (sym l) i)))
+      of o (lengths-differ q u n) k = k
+      of o (not-found q u l n) k = k
