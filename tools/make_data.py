@@ -1,0 +1,400 @@
+#!/usr/bin/env python3
+"""make_data.py: writes the files of crates/checks/data anew, from tools/plain_listing.py and tools/plain_model.py. tools/README.md says what each file holds."""
+import contextlib
+import os
+import sys
+
+import plain_listing
+import plain_model as model
+
+DATA = os.path.join(os.path.dirname(os.path.abspath(__file__)), "..", "crates", "checks", "data")
+ACCEPT, FIRST, SUCCESSOR, CODE_OF_MAP, MAP_OF_CODE, ISOMORPHISM, CENSUS = range(1, 8)
+KINDS = {"length": 0, "last": 1, "none": 2, "refused": 3, "census": 0}
+WIDE = 1000
+
+
+class Numbers:
+    """A small linear congruential generator, so that the data is the same everywhere."""
+
+    def __init__(self, seed):
+        self.state = seed
+
+    def below(self, n):
+        self.state = (self.state * 1103515245 + 12345) % 2**31
+        return (self.state >> 8) % n
+
+    def shuffled(self, n):
+        points = list(range(n))
+        for i in reversed(range(1, n)):
+            j = self.below(i + 1)
+            points[i], points[j] = points[j], points[i]
+        return points
+
+
+def renamed(table, r):
+    """The table g with g[r[x]] = r[f[x]]."""
+    g = [0] * len(table)
+    for x, y in enumerate(table):
+        g[r[x]] = r[y]
+    return g
+
+
+# ---- lines of a file of cases
+
+
+def stretch(numbers, length=None):
+    """A list as its length, the length of a pattern, and the pattern, which repeats until the length is reached."""
+    return [len(numbers) if length is None else length, len(numbers)] + list(numbers)
+
+
+def case(entry, room, a, b, answer):
+    kind, result = answer
+    if kind == "census":
+        rows, height, longest = result
+        value, output = len(rows), [height, longest] + [x for row in rows for x in row]
+    elif kind == "length":
+        value, output = len(result), [] if entry == ACCEPT else result
+    else:
+        value, output = result or 0, []
+    return [entry, room] + a + b + [KINDS[kind], value] + stretch(output)
+
+
+def accept(code, length=None):
+    whole = code if length is None else [code[i % len(code)] for i in range(length)]
+    return case(ACCEPT, 0, stretch(code, length), [0, 0], model.accept(whole))
+
+
+def first(n, room):
+    return case(FIRST, room, [n, 0], [0, 0], model.first(n, room))
+
+
+def successor(code, room=WIDE):
+    return case(SUCCESSOR, room, stretch(code), [0, 0], model.successor(code, room))
+
+
+def code_of_map(table, room=WIDE):
+    return case(CODE_OF_MAP, room, stretch(table), [0, 0], model.code_of_map(table, room))
+
+
+def map_of_code(code, room=WIDE):
+    return case(MAP_OF_CODE, room, stretch(code), [0, 0], model.map_of_code(code, room))
+
+
+def isomorphism(f, g, room, answer):
+    return case(ISOMORPHISM, room, stretch(f), stretch(g), answer)
+
+
+def census(table, room=19):
+    return case(CENSUS, room, stretch(table), [0, 0], model.census(table, room))
+
+
+def save(name, lines):
+    with open(os.path.join(DATA, name), "w") as out:
+        for line in lines:
+            out.write(" ".join(map(str, line)) + "\n")
+    size = os.path.getsize(os.path.join(DATA, name))
+    assert size < 2**16, name
+    print(f"{name}: {len(lines)} lines, {size} bytes", file=sys.stderr)
+
+
+# ---- the sheet of examples, its answers as document 01 gives them
+
+
+def examples():
+    def given(line, kind, value, output=()):
+        """A case with the paper's answer, which has to be the model's."""
+        assert line[-len(stretch(output)) - 2 :] == [KINDS[kind], value] + stretch(output), line
+        return line
+
+    def coded(table, code):
+        return given(code_of_map(table), "length", len(code), code)
+
+    def followed(code, following):
+        return given(successor(code), "length", len(following), following)
+
+    def refused(code, cause):
+        return given(accept(code), "refused", cause)
+
+    zero = given(successor([0, 0]), "last", 0)
+    lines = [coded([], [0, 0]), zero]
+    lines += [coded([1, 2, 0], [3, 1, 3, 1, 1, 1]), coded([0, 0, 0], [3, 1, 1, 3, 1, 1]), coded([0, 0, 1], [3, 1, 1, 3, 2, 1])]
+    lines.append(followed([8, 3, 2, 1, 1, 1, 3, 2, 1, 2, 1, 2, 1], [8, 3, 2, 1, 1, 1, 3, 1, 1, 1, 3, 1, 1]))
+    lines.append(isomorphism([0, 0], [1, 1], WIDE, ("length", [1, 0])))
+    lines.append(isomorphism([0, 1], [1, 0], WIDE, ("none", None)))
+    lines += [refused(code, 6) for code in ([3, 1, 2, 2, 1, 1], [4, 1, 1, 4, 2, 1, 1], [3, 2, 2, 1, 1, 1, 1])]
+    lines += [refused([], 3), refused([128], 3), refused([129, 0], 4), refused([128, 128], 4)]
+    lines += [refused([0, 1], 5), refused([1, 0], 5), refused([1, 1, 1, 1, 9], 7)]
+    lines += [refused([200, 1], 3), refused([201, 1], 1)]
+    lines.append(given(census([1, 0, 2, 2]), "census", 2, [1, 2, 1, 1, 2, 1]))
+    # the list of 3 points, and what would break under the plausible and false readings
+    three = [[3, 3, 1, 1, 1, 1, 1, 1], [3, 2, 1, 1, 2, 1, 1], [3, 2, 1, 1, 1, 2, 1], [3, 1, 3, 1, 1, 1], [3, 1, 1, 3, 2, 1], [3, 1, 1, 3, 1, 1], [3, 1, 2, 1, 2, 1]]
+    lines.append(given(first(3, WIDE), "length", 8, three[0]))
+    lines += [followed(a, b) for a, b in zip(three, three[1:])] + [given(successor(three[-1]), "last", 0)]
+    lines += [refused([5, 1, 4, 1, 2, 1, 1, 1], 6), refused([6, 2, 2, 1, 2, 1, 1, 3, 1, 1], 6)]
+    # the order of checks
+    lines += [refused([1, 1, 1, 1, 128], 3), refused([1, 1, 1, 1, 129, 0], 4), refused([201, 1, 128], 3)]
+    lines += [refused([3, 1, 2, 3, 1, 1], 3), refused([3, 1, 2, 3, 1, 1, 1], 5), refused([2, 1, 1, 1, 9], 5)]
+    return lines
+
+
+# ---- damaged codes
+
+
+def damaged():
+    lines = []
+    seen = set()
+
+    def add(code):
+        if tuple(code) not in seen:
+            seen.add(tuple(code))
+            lines.append(accept(code))
+
+    def damage(code, values):
+        for end in range(len(code)):
+            add(code[:end])
+        add(code + [0])
+        add(code + [1])
+        add(code + [128])
+        add(code + [129, 0])
+        for i, x in enumerate(code):
+            for v in values(x):
+                add(code[:i] + [v] + code[i + 1 :])
+            add(code[:i] + code[i + 1 :])
+            add(code[:i] + [x, x] + code[i + 1 :])
+            add(code[:i] + [x + 128, 0] + code[i + 1 :])
+            if i + 1 < len(code):
+                add(code[:i] + [code[i + 1], x] + code[i + 2 :])
+
+    for n in range(4):
+        for system in plain_listing.systems(n):
+            damage(plain_listing.numbers(n, system), lambda x: [0, 1, 2, 3, 4, 128, 200, 255])
+    # two components of 4 points in the order of their place, the other order, other rotations and other branch orders
+    swaps = [
+        [8, 2, 1, 4, 1, 2, 1, 1, 4, 3, 1, 1],
+        [8, 2, 1, 4, 3, 1, 1, 1, 4, 1, 2, 1],
+        [8, 2, 1, 4, 2, 1, 1, 1, 4, 3, 1, 1],
+        [8, 2, 2, 1, 3, 2, 1, 2, 1, 3, 1, 1],
+        [8, 2, 2, 1, 3, 1, 1, 2, 1, 3, 2, 1],
+        [8, 2, 2, 3, 2, 1, 1, 2, 1, 3, 1, 1],
+        [7, 1, 3, 1, 3, 2, 1, 3, 1, 1],
+        [7, 1, 3, 1, 3, 1, 1, 3, 2, 1],
+        [7, 1, 3, 3, 1, 1, 3, 2, 1, 1],
+        [7, 1, 1, 7, 1, 2, 1, 3, 1, 1],
+        [7, 1, 1, 7, 2, 1, 1, 3, 1, 1],
+        [7, 1, 1, 7, 3, 1, 1, 1, 2, 1],
+        [6, 2, 1, 2, 1, 1, 4, 3, 2, 1],
+        [6, 2, 1, 4, 3, 2, 1, 1, 2, 1],
+    ]
+    for code in swaps:
+        add(code)
+        for i, x in enumerate(code):
+            add(code[:i] + [x + 1] + code[i + 1 :])
+            add(code[:i] + [x - 1] + code[i + 1 :])
+    return lines
+
+
+def damaged_long():
+    """Codes of 128 and 200 points, whose numbers are of one and two bytes."""
+    lines = []
+    numbers = Numbers(7)
+    codes = [model.code_of_map(shape, WIDE)[1] for shape in (path_map(128), star(200), cycle_map(200), random_map(numbers, 200), path_map(200))]
+    for code in codes:
+        lines.append(accept(code))
+        for end in (1, 2, 3, 4, 5, 6, len(code) // 2, len(code) - 2, len(code) - 1):
+            lines.append(accept(code[:end]))
+        for place in list(range(7)) + [len(code) // 2, len(code) - 2, len(code) - 1]:
+            for v in (0, 1, 2, 127, 128, 200, 255):
+                lines.append(accept(code[:place] + [v] + code[place + 1 :]))
+        lines.append(accept(code + [1]))
+        lines.append(accept(code + [200]))
+        lines.append(accept(code + [200, 1]))
+    short = [line for line in lines if len(line) < 40]
+    return short + [line for line in lines if len(line) >= 40][::7]
+
+
+def reordered():
+    """Codes of 3 to 6 points with the components, the trees along a cycle or the branches of a tree in another order: all refused with 6."""
+    def reverse(tree):
+        branches = [reverse(b) for b in reversed(plain_listing.parts(tree))]
+        return tree[:1] + tuple(x for b in branches for x in b)
+
+    found = []
+    for n in range(3, 7):
+        for system in plain_listing.systems(n):
+            ways = [system[::-1], [c[1:] + c[:1] for c in system], [c[::-1] for c in system], [tuple(map(reverse, c)) for c in system]]
+            ways += [system[:i] + [system[i][1:] + system[i][:1]] + system[i + 1 :] for i in range(len(system))]
+            found += [way for way in ways if way != system and way not in found]
+    return [accept(model.written(way)) for way in found]
+
+
+def hostile():
+    lines = [accept([])]
+    for byte in (0, 1, 2, 100, 127, 128, 129, 200, 255):
+        lines += [accept([byte], length) for length in (1, 2, 3, 4, 403, 404, 405, 999, 1000, 1001, 9999, 10000)]
+    for pattern in ([200, 1], [200, 1, 1], [255, 127], [128, 1], [129, 0], [200, 1, 200, 1, 1, 1], [200, 1, 1, 200, 1], [3, 1, 1], [1, 200]):
+        lines += [accept(pattern, length) for length in (len(pattern), 404, 1000, 9999, 10000)]
+    return lines
+
+
+# ---- rooms and refusals
+
+
+def rooms():
+    lines = []
+    code = [8, 3, 2, 1, 1, 1, 3, 2, 1, 2, 1, 2, 1]
+    table = [1, 2, 0, 0, 4, 4, 5]
+    for room in (0, 1, 12, 13, 14, 200, 1000, 2000):
+        lines.append(successor(code, room))
+        lines.append(successor([0, 0], room))
+        lines.append(successor([3, 1, 2, 2, 1, 1], room))
+        lines.append(code_of_map(table, room))
+        lines.append(code_of_map([7] * 7, room))
+        lines.append(first(6, room))
+        lines.append(first(201, room))
+    for room in (0, 7, 8, 9, 1000):
+        lines.append(map_of_code(code, room))
+        lines.append(map_of_code(code[:-1], room))
+        lines.append(map_of_code([0, 0], room))
+    for n in (0, 1, 2, 127, 128, 199, 200, 201, 255, 1000, 65536):
+        lines.append(first(n, WIDE))
+    lines.append(first(200, 404))
+    lines.append(first(200, 403))
+    for length in (127, 128, 200, 201, 202, 255, 1000, 10000):
+        lines.append(case(CODE_OF_MAP, WIDE, stretch([0], length), [0, 0], model.code_of_map([0] * length, WIDE)))
+        lines.append(case(CODE_OF_MAP, WIDE, stretch([255], length), [0, 0], model.code_of_map([255] * length, WIDE)))
+        lines.append(case(CENSUS, 19, stretch([0], length), [0, 0], model.census([0] * length, 19)))
+    lines += [code_of_map(bad, room) for bad in ([1], [0, 2], [0, 1, 3], [255, 0]) for room in (0, WIDE)]
+    good, none = ("length", [1, 0]), ("none", None)
+    lines += [isomorphism([0, 0], [1, 1], room, good) for room in (2, 3, 1000)]
+    lines += [isomorphism([0, 0], [1, 1], room, ("refused", 8)) for room in (0, 1)]
+    lines += [isomorphism([0, 1], [1, 0], room, none) for room in (0, 1, 2, 1000)]
+    lines += [isomorphism([], [], room, ("length", [])) for room in (0, 5)]
+    lines += [isomorphism([0], [], 0, none), isomorphism([], [0], 0, none), isomorphism([0], [0, 0], 9, none)]
+    lines += [isomorphism([1], [], 0, ("refused", 2)), isomorphism([0], [1], 0, ("refused", 2)), isomorphism([0] * 201, [1], 0, ("refused", 1))]
+    lines += [isomorphism([1], [0] * 201, 0, ("refused", 2)), isomorphism([0], [0] * 201, 0, ("refused", 1)), isomorphism([0], [7, 7], 9, ("refused", 2))]
+    lines += [census(t, room) for t in ([], [0], [1, 0], [1, 0, 2, 2]) for room in (0, 1, 2, 19)]
+    lines += [census(t, room) for t in ([1], [0, 2], [0] * 201) for room in (0, 19)]
+    return lines
+
+
+# ---- maps of 200 points
+
+
+def cycle_map(n):
+    return [(x + 1) % n for x in range(n)]
+
+
+def path_map(n):
+    return [max(x - 1, 0) for x in range(n)]
+
+
+def star(n):
+    return [0] * n
+
+
+def random_map(numbers, n):
+    return [numbers.below(n) for _ in range(n)]
+
+
+def joined(*tables):
+    """The maps beside each other."""
+    whole = []
+    for table in tables:
+        shift = len(whole)
+        whole += [shift + x for x in table]
+    return whole
+
+
+def of_trees(*trees):
+    """The map of a component, given its trees as codes of any order."""
+    return model.map_of_system([tuple(map(tuple, trees))])
+
+
+def hung(numbers, n, k):
+    """A connected map: a cycle of k points, and every further point hung at an earlier one."""
+    return cycle_map(k) + [numbers.below(x) for x in range(k, n)]
+
+
+def shapes():
+    numbers = Numbers(1)
+    tree, other = [5, 1, 1, 2, 1], [5, 1, 1, 1, 1]
+    caterpillar = [0] + [x - 1 if x < 100 else x - 100 for x in range(1, 200)]
+    near = hung(Numbers(3), 100, 7)
+    lacking = near[:-1] + [near[-1] - 1 if near[-1] else 1]
+    found = [
+        ("200 fixed points", list(range(200))),
+        ("a cycle of 200", cycle_map(200)),
+        ("100 cycles of 2", joined(*[[1, 0]] * 100)),
+        ("a path into a fixed point", path_map(200)),
+        ("a star", star(200)),
+        ("a full binary tree", [max(x - 1, 0) // 2 for x in range(200)]),
+        ("a caterpillar", caterpillar),
+        ("a path of 100 and a star of 100", joined(path_map(100), star(100))),
+        ("two components of 100 that differ at a leaf", joined(near, lacking)),
+        ("two random components of 100", joined(hung(numbers, 100, 10), hung(numbers, 100, 10))),
+        ("two equal components of 100", joined(near, near)),
+        ("four random components of 50", joined(*[hung(numbers, 50, k) for k in (1, 2, 3, 4)])),
+        ("a cycle of 100 points with a leaf each", of_trees(*[[2, 1]] * 100)),
+        ("a periodic cycle", of_trees(*[[1], [1], [2, 1]] * 50)),
+        ("a periodic cycle, broken once", of_trees(*[[1], [1], [2, 1]] * 49, [1], [2, 1], [1])),
+        ("cycles of 1 to 19 and 10 leaves", joined(*[cycle_map(k) for k in range(1, 20)]) + list(range(180, 190))),
+        ("40 components of 5", joined(*[of_trees(tree), of_trees(other)] * 20)),
+        ("stars on a path", [max(x - 1, 0) if x < 20 else x % 20 for x in range(200)]),
+        ("a cycle of 99 and a path of 101 into it", cycle_map(99) + list(range(98, 199))),
+    ]
+    found += [(f"a random map, {seed}", random_map(Numbers(seed), 200)) for seed in (11, 12, 13, 14)]
+    found += [(f"a random connected map, {seed}", hung(Numbers(seed), 200, 1 + seed % 9)) for seed in (21, 22)]
+    for name, table in found:
+        assert len(table) == 200 and all(0 <= x < 200 for x in table), name
+    return found
+
+
+def last_code(n):
+    return model.written([model.cycle(n - 2) + ((2, 1),)])
+
+
+def steps():
+    numbers = Numbers(5)
+    codes = [model.code_of_map(table, WIDE)[1] for _, table in shapes()]
+    codes += [last_code(n) for n in (3, 8, 50, 128, 200)]
+    for n in (9, 10, 12, 14, 16, 20, 25, 30, 40, 60):
+        codes += [model.code_of_map(random_map(numbers, n), WIDE)[1], model.code_of_map(hung(numbers, n, 1 + numbers.below(5)), WIDE)[1]]
+    return [successor(code) for code in codes]
+
+
+def codes_of_maps():
+    lines = []
+    numbers = Numbers(9)
+    for _, table in shapes():
+        lines.append(code_of_map(renamed(table, numbers.shuffled(200))))
+    for n in (1, 2, 5, 10, 50, 127, 128, 129, 199):
+        table = random_map(numbers, n)
+        lines.append(code_of_map(table))
+        lines.append(map_of_code(model.code_of_map(table, WIDE)[1]))
+    return lines
+
+
+def pairs():
+    numbers = Numbers(17)
+    return [stretch(table) + stretch(renamed(table, numbers.shuffled(200))) for _, table in shapes()]
+
+
+def main():
+    os.makedirs(DATA, exist_ok=True)
+    for n in range(9):
+        sys.argv[1:] = [str(n)]
+        with open(os.path.join(DATA, f"listing_{n}"), "w") as out, contextlib.redirect_stdout(out):
+            plain_listing.main()
+    save("examples", examples())
+    save("damaged", damaged())
+    save("damaged_long", damaged_long())
+    save("reordered", reordered())
+    save("hostile", hostile())
+    save("rooms", rooms())
+    save("steps", steps())
+    save("codes", codes_of_maps())
+    save("census", [census(table) for _, table in shapes()])
+    save("pairs", pairs())
+
+
+main()

@@ -1,0 +1,324 @@
+"""The entries of the engine, each written from the words of document 01 and by other means than the engine: trees are tuples of numbers, components tuples of
+trees, children are all candidate merges that pass the definition's tests, and nothing is fast. tools/make_data.py takes from here what the checks expect.
+
+An answer is a pair: ("length", list of numbers), ("last", None), ("none", None) or ("refused", number of the cause).
+"""
+import functools
+
+from plain_listing import components_of_map, least_rotation, merges, parent, parts, tree_code
+
+COUNT, IMAGE, TRUNCATED, NUMBER_FORM, SIZES, NOT_CANONICAL, TRAILING, ROOM, POSITION = range(1, 10)
+
+
+class Refused(Exception):
+    """A refusal, with its cause."""
+
+
+# ---- the written code
+
+
+def written_number(x):
+    return [x] if x < 128 else [x % 128 + 128, x // 128]
+
+
+def written(system):
+    """n, m, and for each component its number of trees and its tree codes, as bytes."""
+    numbers = [sum(map(points, system)), len(system)]
+    for c in system:
+        numbers += [len(c)] + [x for t in c for x in t]
+    return [b for x in numbers for b in written_number(x)]
+
+
+def cut(code):
+    """The numbers of a written code; the first 3 or 4 decides."""
+    numbers, at = [], 0
+    while at < len(code):
+        if code[at] < 128:
+            numbers.append(code[at])
+            at += 1
+        elif at + 1 == len(code):
+            raise Refused(TRUNCATED)
+        elif not 0 < code[at + 1] < 128:
+            raise Refused(NUMBER_FORM)
+        else:
+            numbers.append(code[at] - 128 + 128 * code[at + 1])
+            at += 2
+    return numbers
+
+
+def read(numbers):
+    """The components that the numbers say, from left to right, the first fault deciding: 1 for n; 3, 5; then 7. Nothing is asked of any order."""
+    at = 0
+
+    def number():
+        nonlocal at
+        if at == len(numbers):
+            raise Refused(TRUNCATED)
+        at += 1
+        return numbers[at - 1]
+
+    def tree(left):
+        size = number()
+        if not 0 < size <= left:
+            raise Refused(SIZES)
+        code, inside = (size,), size - 1
+        while inside:
+            branch = tree(inside)
+            code += branch
+            inside -= branch[0]
+        return code
+
+    left = number()
+    if left > 200:
+        raise Refused(COUNT)
+    n, m = left, number()
+    if m > n or (m == 0 and n > 0):
+        raise Refused(SIZES)
+    system = []
+    for _ in range(m):
+        k = number()
+        if not 0 < k <= left:
+            raise Refused(SIZES)
+        component = ()
+        for _ in range(k):
+            t = tree(left)
+            left -= t[0]
+            component += (t,)
+        system.append(component)
+    if left:
+        raise Refused(SIZES)
+    if at < len(numbers):
+        raise Refused(TRAILING)
+    return system
+
+
+# ---- trees, components and their order
+
+
+def points(c):
+    return sum(t[0] for t in c)
+
+
+def is_tree(t):
+    branches = parts(t)
+    return branches == sorted(branches) and all(map(is_tree, branches))
+
+
+def is_component(c):
+    return all(map(is_tree, c)) and least_rotation(list(c)) == c
+
+
+def children(c):
+    """The candidates, in order, that are valid codes with this parent; one already met is skipped."""
+    found = []
+    for d in merges(c):
+        if d not in found and parent(d) == c and is_component(d):
+            found.append(d)
+    return found
+
+
+def depth(c):
+    return points(c) - len(c)
+
+
+@functools.lru_cache(None)
+def path(c):
+    """The places of a component's ancestors among the candidate merges, from the cycle on."""
+    p = parent(c)
+    return () if p is None else path(p) + (merges(p).index(c),)
+
+
+def generated(c, d):
+    """Negative, 0 or positive, as c comes before d, is d, or comes after d in generation order."""
+    p, q = path(c), path(d)
+    for x, y in zip(p, q):
+        if x != y:
+            return x - y
+    if len(p) < len(q):
+        return -1 if depth(c) % 2 == 0 else 1
+    if len(q) < len(p):
+        return 1 if depth(d) % 2 == 0 else -1
+    return 0
+
+
+def compared(c, d):
+    """The order inside a code: by number of points, then by generation order."""
+    return points(c) - points(d) or generated(c, d)
+
+
+def canonical(system):
+    return all(map(is_component, system)) and all(compared(c, d) <= 0 for c, d in zip(system, system[1:]))
+
+
+def accepted(code):
+    system = read(cut(code))
+    if not canonical(system):
+        raise Refused(NOT_CANONICAL)
+    return system
+
+
+# ---- successors
+
+
+def entered(c):
+    """The first component written of c and its descendants."""
+    if depth(c) % 2 == 1:
+        below = children(c)
+        if below:
+            return entered(below[0])
+    return c
+
+
+def left_behind(c):
+    """What is written after c and all its descendants."""
+    p = parent(c)
+    if p is None:
+        return None
+    siblings = children(p)
+    place = siblings.index(c)
+    if place + 1 < len(siblings):
+        return entered(siblings[place + 1])
+    return p if depth(p) % 2 == 1 else left_behind(p)
+
+
+def next_component(c):
+    if depth(c) % 2 == 0:
+        below = children(c)
+        if below:
+            return entered(below[0])
+    return left_behind(c)
+
+
+def next_sizes(sizes):
+    """The next nondecreasing list with the same sum: the longest beginning is kept after which a number can grow, and what follows is the least that fits."""
+    for i in reversed(range(len(sizes))):
+        rest = sum(sizes[i:])
+        least = sizes[i] + 1
+        if least <= rest - least:
+            tail, left = [], rest
+            while left >= 2 * least:
+                tail.append(least)
+                left -= least
+            return sizes[:i] + tail + [left]
+        if sizes[i] < rest:
+            return sizes[:i] + [rest]
+    return None
+
+
+def cycle(n):
+    return ((1,),) * n
+
+
+def next_system(system):
+    for i in reversed(range(len(system))):
+        c = next_component(system[i])
+        if c is not None:
+            return system[:i] + [c] + [c if points(d) == points(c) else cycle(points(d)) for d in system[i + 1 :]]
+    sizes = next_sizes([points(c) for c in system])
+    return None if sizes is None else [cycle(s) for s in sizes]
+
+
+# ---- tables
+
+
+def checked(table):
+    if len(table) > 200:
+        raise Refused(COUNT)
+    if any(x >= len(table) for x in table):
+        raise Refused(IMAGE)
+    return table
+
+
+def system_of_map(table):
+    return sorted(components_of_map(table), key=functools.cmp_to_key(compared))
+
+
+def map_of_system(system):
+    table = []
+
+    def plant(t, root):
+        here = len(table)
+        table.append(root)
+        for branch in parts(t):
+            plant(branch, here)
+        return here
+
+    for c in system:
+        roots = [plant(t, None) for t in c]
+        for place, root in enumerate(roots):
+            table[root] = roots[(place + 1) % len(roots)]
+    return table
+
+
+def census_of_map(table):
+    """The rows (length, number of cycles), the greatest distance of a point from its cycle, and the longest cycle."""
+    def distance(x):
+        seen = []
+        while x not in seen:
+            seen.append(x)
+            x = table[x]
+        return seen.index(x), len(seen) - seen.index(x)
+
+    walks = [distance(x) for x in range(len(table))]
+    lengths = [length for away, length in walks if away == 0]
+    rows = [(length, lengths.count(length) // length) for length in sorted(set(lengths))]
+    return rows, max([away for away, _ in walks], default=0), max(lengths, default=0)
+
+
+# ---- the entries: what each answers, given the room of the lent output
+
+
+def replied(work, room=None):
+    """The answer of an entry whose result is work(): 8 comes last, and only where there is a result to write."""
+    try:
+        result = work()
+    except Refused as cause:
+        return "refused", cause.args[0]
+    if result is None:
+        return "last", None
+    if room is not None and len(result) > room:
+        return "refused", ROOM
+    return "length", result
+
+
+def accept(code):
+    return replied(lambda: [0] * sum(map(points, accepted(code))))
+
+
+def first(n, room):
+    def work():
+        if n > 200:
+            raise Refused(COUNT)
+        return written([cycle(1)] * n)
+
+    return replied(work, room)
+
+
+def successor(code, room):
+    def work():
+        following = next_system(accepted(code))
+        return None if following is None else written(following)
+
+    return replied(work, room)
+
+
+def code_of_map(table, room):
+    return replied(lambda: written(system_of_map(checked(table))), room)
+
+
+def map_of_code(code, room):
+    return replied(lambda: map_of_system(accepted(code)), room)
+
+
+def census(table, room):
+    """The rows one after another, or a refusal; the room is that of a list of rows."""
+    def work():
+        return census_of_map(checked(table))
+
+    try:
+        rows, height, longest = work()
+    except Refused as cause:
+        return "refused", cause.args[0]
+    if len(rows) > room:
+        return "refused", ROOM
+    return "census", (rows, height, longest)
