@@ -1,6 +1,8 @@
 // Cases: an entry of the engine, the room that is lent to it, its inputs, the answer that it must give and what it must write [tools/README.md].
 use crate::Score;
+use crate::input_room;
 use crate::numbers;
+use crate::output_room;
 use engine::Census;
 use engine::Isomorphism;
 use engine::Successor;
@@ -320,25 +322,39 @@ fn holds(
     )
 }
 
-// How many of the cases of a text hold. The buffers are lent for the inputs, the expected output and the output.
-pub fn run_cases(
-    text: &[u8],
-    a: &mut [u8],
-    b: &mut [u8],
-    expected: &mut [u8],
-    out: &mut [u8],
-    counts: &mut [u8],
-) -> Score {
+// The case that begins at a place of a text: whether it holds, and where the next one begins.
+struct Turn {
+    holds: bool,
+    next: usize,
+}
+
+// Its inputs, the expected output and the output have buffers of their own, so that the loop over a text carries none.
+fn run_case(text: &[u8], place: usize) -> Turn {
+    let mut a = input_room();
+    let mut b = input_room();
+    let mut expected = output_room();
+    let mut out = output_room();
+    let mut counts = output_room();
+    let case = read_case(text, place, &mut a, &mut b, &mut expected);
+    let next = case.next;
+    Turn {
+        holds: holds(case, &a, &b, &expected, &mut out, &mut counts),
+        next,
+    }
+}
+
+// How many of the cases of a text hold.
+pub fn run_cases(text: &[u8]) -> Score {
     let mut held = 0;
     let mut total = 0;
     let mut place = 0;
     while place < text.len() {
-        let case = read_case(text, place, a, b, expected);
-        let next = case.next;
+        let turn = run_case(text, place);
+        let next = turn.next;
         if next <= place {
             return Score { held: 0, total };
         }
-        held = numbers::counted(held, holds(case, a, b, expected, out, counts));
+        held = numbers::counted(held, turn.holds);
         total = numbers::counted(total, true);
         place = next;
     }

@@ -18,14 +18,14 @@ pub struct Score {
 }
 
 // Room for every input of a case.
-fn input_room() -> [u8; 10000]
+pub fn input_room() -> [u8; 10000]
     ensures { λ r. ⌜ 10000 ≡ length r ⌝ }
 {
     [0; 10000]
 }
 
 // Room for every output of a case.
-fn output_room() -> [u8; 2000]
+pub fn output_room() -> [u8; 2000]
     ensures { λ r. ⌜ 2000 ≡ length r ⌝ }
 {
     [0; 2000]
@@ -57,20 +57,7 @@ fn report(group: &[u8], score: Score) {
 fn run_file(name: &[u8], group: &[u8]) {
     let mut file = io::large_buffer();
     let size = load(name, &mut file);
-    let mut a = input_room();
-    let mut b = input_room();
-    let mut expected = output_room();
-    let mut out = output_room();
-    let mut counts = output_room();
-    let score = cases::run_cases(
-        &file[0..size],
-        &mut a,
-        &mut b,
-        &mut expected,
-        &mut out,
-        &mut counts,
-    );
-    report(group, score);
+    report(group, cases::run_cases(&file[0..size]));
 }
 
 // Whether the listing of n points is that of its file.
@@ -109,23 +96,28 @@ fn run_listings() -> Score {
 }
 
 fn run_lists() {
-    let mut code = output_room();
-    let mut next = output_room();
-    report(b"totals", lists::totals(&mut code, &mut next));
-    report(b"connected", lists::connected(&mut code, &mut next));
+    let found = lists::totals();
+    report(
+        b"totals",
+        Score {
+            held: found.codes,
+            total: 9,
+        },
+    );
+    report(
+        b"connected",
+        Score {
+            held: found.connected,
+            total: 9,
+        },
+    );
     report(b"plain listings", run_listings());
 }
 
 fn run_maps() {
     let mut file = io::large_buffer();
     let size = load(b"pairs", &mut file);
-    let mut f = output_room();
-    let mut g = output_room();
-    let mut a = output_room();
-    let mut b = output_room();
-    let mut out = output_room();
-    let found = runs::run_pairs(&file[0..size], &mut f, &mut g, &mut a, &mut b, &mut out);
-    report_runs(found);
+    report_runs(runs::run_pairs(&file[0..size]));
 }
 
 fn report_runs(found: runs::Runs) {

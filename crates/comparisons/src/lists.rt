@@ -1,6 +1,6 @@
 // The list of all codes: how many there are, how many of them are connected, and how it is printed.
-use crate::Score;
 use crate::numbers;
+use crate::output_room;
 use engine::Successor;
 use written::Reply;
 
@@ -14,9 +14,9 @@ const CONNECTED: [usize; 9] = [0, 1, 2, 4, 9, 20, 51, 125, 329];
 const LIMIT: usize = 10000;
 
 // How many codes a list has, and how many of them have one component.
-struct Tally {
-    codes: usize,
-    connected: usize,
+pub struct Tally {
+    pub codes: usize,
+    pub connected: usize,
 }
 
 // Whether the code in the first `len` places has one component: its second number is 1.
@@ -64,28 +64,24 @@ fn ended(step: Successor, codes: usize, connected: usize) -> Tally {
     Tally { codes, connected }
 }
 
-// How many of the lists of 0 to 8 points have as many codes as they should.
-pub fn totals(code: &mut [u8], next: &mut [u8]) -> Score {
-    let mut held = 0;
-    let mut n = 0;
-    while n < 9 {
-        let found = count_codes(n, code, next);
-        held = numbers::counted(held, found.codes == TOTALS[n]);
-        n += 1;
-    }
-    Score { held, total: 9 }
+fn count_list(n: usize) -> Tally {
+    let mut code = output_room();
+    let mut next = output_room();
+    count_codes(n, &mut code, &mut next)
 }
 
-// How many of the lists of 1 to 8 points have as many connected codes as they should.
-pub fn connected(code: &mut [u8], next: &mut [u8]) -> Score {
-    let mut held = 0;
-    let mut n = 1;
+// How many of the lists of 0 to 8 points have as many codes, and as many connected ones, as they should.
+pub fn totals() -> Tally {
+    let mut codes = 0;
+    let mut connected = 0;
+    let mut n = 0;
     while n < 9 {
-        let found = count_codes(n, code, next);
-        held = numbers::counted(held, found.connected == CONNECTED[n]);
+        let found = count_list(n);
+        codes = numbers::counted(codes, found.codes == TOTALS[n]);
+        connected = numbers::counted(connected, found.connected == CONNECTED[n]);
         n += 1;
     }
-    Score { held, total: 8 }
+    Tally { codes, connected }
 }
 
 // Whether what the listing program writes for n points is the text.

@@ -1,5 +1,6 @@
 // Runs on pairs of maps, the second a shuffled copy of the first.
 use crate::numbers;
+use crate::output_room;
 use engine::Isomorphism;
 use engine::Successor;
 use written::Reply;
@@ -177,21 +178,25 @@ fn run_pair(
 }
 
 // The runs with the pair that begins at `place`.
-fn run_line(
-    runs: Runs,
-    text: &[u8],
-    place: usize,
-    f: &mut [u8],
-    g: &mut [u8],
-    a: &mut [u8],
-    b: &mut [u8],
-    out: &mut [u8],
-) -> Runs {
-    let first = numbers::stretch(text, place, f);
-    let second = numbers::stretch(text, first.next, g);
-    let n = numbers::within(first.value, f);
-    let m = numbers::within(second.value, g);
-    run_pair(runs, second.next, &f[0..n], &g[0..m], a, b, out)
+fn run_line(runs: Runs, text: &[u8], place: usize) -> Runs {
+    let mut f = output_room();
+    let mut g = output_room();
+    let mut a = output_room();
+    let mut b = output_room();
+    let mut out = output_room();
+    let first = numbers::stretch(text, place, &mut f);
+    let second = numbers::stretch(text, first.next, &mut g);
+    let n = numbers::within(first.value, &f);
+    let m = numbers::within(second.value, &g);
+    run_pair(
+        runs,
+        second.next,
+        &f[..n],
+        &g[..m],
+        &mut a,
+        &mut b,
+        &mut out,
+    )
 }
 
 fn none() -> Runs {
@@ -206,18 +211,11 @@ fn none() -> Runs {
 }
 
 // Runs on all pairs of a text: two lists a line.
-pub fn run_pairs(
-    text: &[u8],
-    f: &mut [u8],
-    g: &mut [u8],
-    a: &mut [u8],
-    b: &mut [u8],
-    out: &mut [u8],
-) -> Runs {
+pub fn run_pairs(text: &[u8]) -> Runs {
     let mut runs = none();
     let mut place = 0;
     while place < text.len() {
-        runs = run_line(runs, text, place, f, g, a, b, out);
+        runs = run_line(runs, text, place);
         let next = runs.next;
         if next <= place {
             return none();
