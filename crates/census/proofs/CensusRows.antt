@@ -15,7 +15,7 @@ use Rattle.lists.proofs.Members.{in-range, of-range, in-keep, of-keep, nodup-ke
 use Rattle.lists.proofs.Places.{times-nodup, times-out}
 use Rattle.patterns.specs.Table.{image}
 use Rattle.patterns.specs.Census.{greatest, Row, cycleLengths, cyclesOf, height, longestCycle, Census}
-use Rattle.maps.proofs.General.{map-same}
+use Rattle.lists.proofs.Gathering.{map-same}
 use Rattle.maps.proofs.Orbits.{orbit-length}
 use Rattle.maps.proofs.Leaders.{cycle-period, leader-onCycle}
 use Rattle.maps.proofs.CensusTheory.{greatest-bound, greatest-in, of-cycleLengths, cycleLengths-positive, occurs, occurs-not, census-fits}

@@ -9,7 +9,7 @@ use Rattle.lists.proofs.Comparison.{compare-lawful}
 use Rattle.lists.proofs.Lex.{lexBy}
 use Rattle.lists.proofs.Members.{not-in-nil, in-single, of-gather}
 use Rattle.lists.proofs.Rising.{Rising, rising-nil, rising-cons, rising-single, rising-append, rising-gather-rising}
-use Rattle.components.proofs.Listing.{flagAfter, flagAfter-last, lexBy-strip}
+use Rattle.lists.proofs.RisingPlaces.{flagAfter, flagAfter-last, lexBy-strip}
 use Rattle.components.proofs.Traversal.{walk, of-walk}
 
 -- The alternating order of paths: the first difference decides; where there is none, the shorter path comes first if its length is even, and last if it is odd.

@@ -22,7 +22,7 @@ use Rattle.patterns.specs.Component.{Component, compareComponent, validComponen
 use Rattle.patterns.specs.Generation.{hasParent, parent, leftMerges, rightMerges, candidates, isChild}
 use Rattle.patterns.proofs.Trees.{compareTree-lawful, compareComponent-lawful}
 use Rattle.components.specs.Successor.{firstChild, nextSibling}
-use Rattle.components.proofs.General.{newAt, once-keep, once-next}
+use Rattle.lists.proofs.Passing.{newAt, once-keep, once-next}
 use Rattle.components.proofs.Lemma8.{nonempty-append}
 use Rattle.components.proofs.Children.{mergesBy, merge-right, left-by, right-by, child-candidate, children-candidate}
 use Rattle.components.specs.Path.{key}

@@ -1,5 +1,4 @@
 -- The theory of this layer.
-pub mod General
 pub mod Unmerging
 pub mod Lemma8
 pub mod Children
@@ -7,7 +6,6 @@ pub mod Keys
 pub mod ChildPlaces
 pub mod Traversal
 pub mod Generation
-pub mod Listing
 pub mod Alternating
 pub mod Paths
 pub mod Neighbours

@@ -20,7 +20,7 @@ use Rattle.patterns.proofs.Trees.{compareComponent-lawful}
 use Rattle.components.proofs.Lemma8.{parent-points, parent-length}
 use Rattle.components.proofs.Children.{children-parent}
 use Rattle.components.proofs.Generation.{cycleOf, cycle-points, length-points, generation-is-walk, generation-sound, generation-complete}
-use Rattle.components.proofs.Listing.{once-keep-rises, rising-change, rising-places}
+use Rattle.lists.proofs.RisingPlaces.{once-keep-rises, rising-change, rising-places}
 use Rattle.components.specs.Path.{key, path-of, path}
 use Rattle.components.proofs.Alternating.{Keyed, compareAlternating, walk-rises}
 

@@ -11,7 +11,7 @@ use Rattle.patterns.proofs.Trees.{compareComponent-lawful}
 use Rattle.components.specs.Successor.{firstChild, nextSibling}
 use Rattle.components.proofs.Children.{child-candidate}
 use Rattle.components.specs.Path.{key}
-use Rattle.components.proofs.Listing.{once-keep-rises, keep-once, rising-next}
+use Rattle.lists.proofs.RisingPlaces.{once-keep-rises, keep-once, rising-next}
 
 first-once : (l : List Component) → first (once compareComponent l) ≡ first l
 first-once [] = refl

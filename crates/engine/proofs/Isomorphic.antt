@@ -27,7 +27,7 @@ use Rattle.patterns.specs.Reading.{done, fault}
 use Rattle.patterns.specs.Entry.{Answer, gives, lacks, fails, none-exists, refused, numberOf, checkedTable, IsomorphismReplied, first-refused, second-refused, found, lengths-differ, not-found}
 use Rattle.systems.proofs.WrittenBack.{written-equal}
 use Rattle.maps.proofs.MapOf.{length-mapOf, mapOf-table}
-use Rattle.maps.proofs.General.{perm-nodup}
+use Rattle.lists.proofs.Gathering.{perm-nodup}
 use Rattle.maps.proofs.Isomorphisms.{table-below, isomorphism-perm, isomorphism-below, isomorphism-through}
 use Rattle.maps.proofs.Theorems.{table-canonical, table-weight, renaming-system}
 use Rattle.engine.specs.Tables.{Table, CodeAsked, CodeWritten, Matched, SendsPut, SameLength}

@@ -10,3 +10,7 @@ pub mod Places
 pub mod Rising
 pub mod Follow
 pub mod Pigeon
+pub mod Passing
+pub mod RisingPlaces
+pub mod Gathering
+pub mod Neighbours

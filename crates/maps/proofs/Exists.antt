@@ -18,7 +18,7 @@ use Rattle.patterns.specs.System.{compareGenerated, canonical}
 use Rattle.patterns.specs.Table.{cycleFrom, leaders}
 use Rattle.patterns.proofs.Rotations.{Rotated, rotated-perm, leastRotation-rotated, leastRotation-valid}
 use Rattle.maps.specs.Plants.{compareShapes}
-use Rattle.maps.proofs.General.{gather-gather, gather-map}
+use Rattle.lists.proofs.Gathering.{gather-gather, gather-map}
 use Rattle.maps.proofs.Pictures.{Plant, shape, root, labels, allLabels, shapes, Picture}
 use Rattle.maps.proofs.Cycles.{cycle-turned}
 use Rattle.maps.proofs.Leaders.{cycle-turn, leader-onCycle}

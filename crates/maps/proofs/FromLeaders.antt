@@ -16,7 +16,7 @@ use Rattle.patterns.specs.Component.{turn}
 use Rattle.patterns.specs.Table.{image, isTable, onCycle, cycleFrom, leadsCycle, leaders}
 use Rattle.patterns.proofs.Rotations.{Rotated}
 use Rattle.maps.specs.Plants.{Plant, root, labels, plantAt, plantsAlong}
-use Rattle.maps.proofs.General.{gather-gather, gather-map}
+use Rattle.lists.proofs.Gathering.{gather-gather, gather-map}
 use Rattle.maps.proofs.Pictures.{Arrows}
 use Rattle.maps.proofs.Cycles.{cycle-turned}
 use Rattle.maps.proofs.Leaders.{cycle-turn}

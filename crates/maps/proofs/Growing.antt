@@ -21,7 +21,7 @@ use Rattle.patterns.proofs.Trees.{size-positive, size-graft, code-branches, bra
 use Rattle.written.specs.Putting.{placed}
 use Rattle.maps.specs.Plants.{Plant, tip, shape, root, labels, plantOn, comparePlant, plantTo, plantAt}
 use Rattle.maps.specs.Writing.{Planted, Prepared, TreeAsked, RowStands, Inserts}
-use Rattle.maps.proofs.General.{map-same}
+use Rattle.lists.proofs.Gathering.{map-same}
 use Rattle.maps.proofs.PlantAt.{plantOn-shape, plantOn-labels}
 use Rattle.maps.proofs.Shown.{length-labels}
 use Rattle.maps.proofs.Standing.{stands-left, stands-path}

@@ -14,7 +14,7 @@ use Rattle.lists.proofs.Members.{NoDup, compare-decides, of-range, nodup-range}
 use Rattle.lists.proofs.Places.{in-index, index-of, range-length, getD-range, place-index, place-at}
 use Rattle.patterns.specs.Table.{image, isTable}
 use Rattle.patterns.specs.Isomorphism.{Isomorphism}
-use Rattle.maps.proofs.General.{map-same, perm-nodup, once-perm, perm-once, below-of, of-below, getD-map}
+use Rattle.lists.proofs.Gathering.{map-same, perm-nodup, once-perm, perm-once, below-of, of-below, getD-map}
 use Rattle.maps.proofs.MapOf.{reads-self}
 
 -- the images of a table are points

@@ -14,7 +14,7 @@ use Rattle.patterns.specs.Component.{points, turn}
 use Rattle.patterns.specs.MapOf.{innerImages, cycleImages, imagesFrom, mapOf}
 use Rattle.patterns.specs.Table.{image}
 use Rattle.patterns.specs.Isomorphism.{Isomorphism}
-use Rattle.maps.proofs.General.{perm-once, getD-map}
+use Rattle.lists.proofs.Gathering.{perm-once, getD-map}
 use Rattle.maps.proofs.Pictures.{Plant, shape, root, inner, labels, Arrows, arrows-tip, arrows-join, allLabels, shapes, Picture}
 use Rattle.maps.proofs.Plants.{length-inner}
 use Rattle.maps.proofs.Shown.{length-labels, picture-weight}

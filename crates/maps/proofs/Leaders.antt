@@ -14,7 +14,7 @@ use Rattle.lists.proofs.Members.{NoDup, in-head, in-cons-cases, in-list, in-mov
 use Rattle.lists.proofs.Pigeon.{same-members-perm}
 use Rattle.patterns.specs.Component.{turn}
 use Rattle.patterns.specs.Table.{orbit, onCycle, until, cycleFrom, leadsCycle, leaders}
-use Rattle.maps.proofs.General.{least-member}
+use Rattle.lists.proofs.Gathering.{least-member}
 use Rattle.maps.proofs.Cycles.{cycle-image}
 use Rattle.maps.proofs.Orbits.{iterate, iterate-suc, iterate-add, period-moves, in-orbit, of-orbit, orbit-turn, orbit-repeats, onCycle-period, onCycle-moves, onCycle-back, iterate-inside}
 

@@ -1,5 +1,4 @@
 -- The theory of maps: the code of a map and the map of a code.
-pub mod General
 pub mod Pictures
 pub mod Cycles
 pub mod Plants

@@ -18,7 +18,7 @@ use Rattle.patterns.specs.Component.{Component, points, turn}
 use Rattle.patterns.specs.System.{System, weight}
 use Rattle.patterns.specs.MapOf.{innerImages, cycleImages, imagesFrom, mapOf}
 use Rattle.patterns.specs.Table.{image, isTable}
-use Rattle.maps.proofs.General.{append-same-length}
+use Rattle.lists.proofs.Gathering.{append-same-length}
 use Rattle.maps.proofs.Pictures.{Plant, tip, join, shape, root, labels, Arrows, arrows-tip, arrows-join, allLabels, shapes, Picture}
 
 -- from place p on, the table r reads xs

@@ -14,7 +14,7 @@ use Rattle.lists.proofs.Sorting.{Sorted, sorted-nil, sorted-one, sorted-before,
 use Rattle.patterns.specs.Component.{Component, points, validComponent}
 use Rattle.patterns.specs.System.{System, generationPlace, compareGenerated, inOrder, canonical}
 use Rattle.components.proofs.Paths.{generated-equal}
-use Rattle.maps.proofs.General.{map-injective}
+use Rattle.lists.proofs.Gathering.{map-injective}
 
 -- the two numbers by which components are compared
 abbrev pub Key : Type 0

@@ -18,7 +18,7 @@ use Rattle.lists.proofs.Pigeon.{nodup-below-length}
 use Rattle.patterns.specs.Tree.{size, branches, graft, compareTree, validTree}
 use Rattle.patterns.specs.Table.{onCycle, hangsAt, hanging, treeTo}
 use Rattle.patterns.proofs.Trees.{size-positive, compareTree-lawful, graft-branches, valid-branches}
-use Rattle.maps.proofs.General.{map-same, gather-gather, keep-same, perm-nodup, below-of, nodup-piece}
+use Rattle.lists.proofs.Gathering.{map-same, gather-gather, keep-same, perm-nodup, below-of, nodup-piece}
 use Rattle.maps.proofs.Pictures.{Plant, tip, join, shape, root, inner, labels, boughs, Arrows, allLabels, Picture}
 use Rattle.maps.proofs.Cycles.{cycle-image, onCycle-closed, cycle-on}
 use Rattle.maps.proofs.Plants.{shape-boughs, bough-size, bough-inner, inner-bough, bough-nodup, bough-arrows, inner-image, inner-reaches, keep-root, keep-bough}

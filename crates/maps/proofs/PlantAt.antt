@@ -14,7 +14,7 @@ use Rattle.patterns.specs.Tree.{Tree, graft, graftOn, compareTree, validTree}
 use Rattle.patterns.specs.Table.{hanging, treeTo}
 use Rattle.patterns.proofs.Trees.{compareTree-lawful, branches-graft, branches-valid}
 unfoldable pub use Rattle.maps.specs.Plants.{plantOn, comparePlant, plantTo}
-use Rattle.maps.proofs.General.{map-same, gather-gather, gather-map}
+use Rattle.lists.proofs.Gathering.{map-same, gather-gather, gather-map}
 use Rattle.maps.proofs.Pictures.{Plant, tip, join, shape, root, labels, Arrows, arrows-tip, arrows-join}
 use Rattle.maps.proofs.Levels.{level, of-hanging, next-level}
 

@@ -8,7 +8,7 @@ use Rattle.lists.proofs.Permute.{Perm, perm-trans, perm-path, perm-map}
 use Rattle.lists.proofs.Members.{in-head, in-append-left, in-append-right, in-moved, of-map, in-gather}
 use Rattle.patterns.specs.Tree.{merge}
 use Rattle.patterns.specs.Component.{turn}
-use Rattle.maps.proofs.General.{map-same, map-gather, gather-map, gather-same, below-of}
+use Rattle.lists.proofs.Gathering.{map-same, map-gather, gather-map, gather-same, below-of}
 use Rattle.maps.proofs.Pictures.{Plant, tip, join, shape, root, labels, Arrows, arrows-tip, arrows-join, allLabels, shapes, Picture}
 use Rattle.maps.proofs.Cycles.{map-turn}
 

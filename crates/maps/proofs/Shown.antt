@@ -17,7 +17,7 @@ use Rattle.patterns.specs.Component.{points, leastRotation, validComponent}
 use Rattle.patterns.specs.System.{weight, canonical}
 use Rattle.patterns.specs.Table.{orbit, onCycle, hanging, treeTo, treeAt, componentAt, leadsCycle, leaders, systemOf}
 use Rattle.patterns.proofs.Rotations.{leastRotation-append, valid-leastRotation, valid-nonempty, valid-trees}
-use Rattle.maps.proofs.General.{map-same, map-gather, keep-gather, gather-single, keep-one, least-member, nodup-piece, of-below}
+use Rattle.lists.proofs.Gathering.{map-same, map-gather, keep-gather, gather-single, keep-one, least-member, nodup-piece, of-below}
 use Rattle.maps.proofs.Pictures.{Plant, shape, root, labels, allLabels, shapes, Picture}
 use Rattle.maps.proofs.Cycles.{cycle-from, leads-least, least-leads}
 use Rattle.maps.proofs.Plants.{length-inner}

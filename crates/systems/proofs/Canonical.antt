@@ -19,7 +19,7 @@ use Rattle.patterns.specs.System.{System, generationPlace, compareGenerated, in
 use Rattle.patterns.proofs.Trees.{size-positive, compareComponent-lawful}
 use Rattle.patterns.proofs.Rotations.{valid-nonempty}
 use Rattle.components.proofs.Generation.{generation-sound, generation-complete, generation-once}
-use Rattle.systems.proofs.General.{in-from, of-from}
+use Rattle.lists.proofs.Neighbours.{in-from, of-from}
 use Rattle.systems.proofs.Sizes.{Upward, upward-nil, upward-cons, upward-head, upward-tail}
 
 -- a valid component has a point

@@ -1,7 +1,6 @@
 -- The theory of this layer.
 pub mod Bounds
 pub mod Sizes
-pub mod General
 pub mod Canonical
 pub mod Codes
 pub mod Firsts

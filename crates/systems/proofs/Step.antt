@@ -22,7 +22,7 @@ use Rattle.components.specs.Successor.{successor}
 use Rattle.systems.specs.Step.{cycle, fills, bump, step}
 use Rattle.components.proofs.Generation.{generation-once}
 use Rattle.components.proofs.Successor.{successor-within}
-use Rattle.systems.proofs.General.{neighbours-gap, last-greatest}
+use Rattle.lists.proofs.Neighbours.{neighbours-gap, last-greatest}
 use Rattle.systems.proofs.Sizes.{sum, sizes-sound, sizes-within}
 use Rattle.systems.proofs.Canonical.{points-positive, generated-points, inOrder-parts, inOrder-upward, canonical-upward, in-available}
 use Rattle.systems.proofs.Codes.{compareCodes, codes-apart, codes-rise, codes-sound, codes-complete, codes-different}
