@@ -14,3 +14,4 @@ pub mod Passing
 pub mod RisingPlaces
 pub mod Gathering
 pub mod Neighbours
+pub mod Filled

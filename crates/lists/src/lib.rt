@@ -1,8 +1,8 @@
-// Comparing two lists of bytes, and exchanging two neighbouring blocks of a lent slice.
+// Comparing two lists of bytes, exchanging two neighbouring blocks of a lent slice, and setting all its places to one number.
 ghost use denote.Ref.{now};
 ghost use mathlib.Core.Path.{_≡_};
 ghost use Prim.Native.Nat.{_≤_, compare as compareNumbers};
-ghost use lib.ListN.{length};
+ghost use lib.ListN.{length, replicate};
 ghost use Rattle.lists.specs.Order.{lex};
 ghost use Rattle.lists.specs.Blocks.{orderingOf, exchanged};
 
@@ -45,4 +45,15 @@ pub fn exchange(s: &mut [u8], a: usize, b: usize, e: usize)
     bytes::reverse(s, a, b);
     bytes::reverse(s, b, e);
     bytes::reverse(s, a, e);
+}
+
+// Every number of `s` becomes `x`.
+pub fn set_all(s: &mut [u8], x: u8)
+    ensures { λ r. ⌜ now (s .exit) ≡ replicate (length (now (s .entry))) x ⌝ }
+{
+    let mut i = 0;
+    while i < s.len() {
+        s[i] = x;
+        i += 1;
+    }
 }

@@ -7,7 +7,7 @@ use Prim.Native.Nat.{ℕ, _+_, _-_, _≤_, _<_}
 use native.Mathlib.Numerals.{add-one}
 use native.Mathlib.Omega.{arith}
 use lib.Dec.{eqb}
-use lib.ListN.{length, getD, set, length-set}
+use lib.ListN.{length, getD, set, replicate, length-set, length-replicate, getD-replicate}
 use lib.Seq.{getD-set-same, getD-set-other}
 use borrow.Author.Count.{below-more}
 use borrow.Author.Tests.{eqb-true, eqb-false}
@@ -16,13 +16,6 @@ use Rattle.patterns.specs.Table.{image, isTable, onCycle}
 use Rattle.maps.specs.Marks.{iterate, PointOf, Marked}
 use Rattle.maps.proofs.Orbits.{iterate-suc, iterate-add, iterate-swap, iterate-inside, onCycle-moves, onCycle-back, every-point-reaches-cycle}
 use Rattle.maps.proofs.Isomorphisms.{table-below}
-
--- the first i entries are 0, and one more
-pub zeros-next : (s : List ℕ) (i : ℕ) → i < length s → ((x : ℕ) → x < i → getD s x 0 ≡ 0) → (x : ℕ) → x < i + 1 → getD (set s i 0) x 0 ≡ 0
-zeros-next s i h z =
-    below-more (λ x. getD (set s i 0) x 0 ≡ 0) i
-    (λ x b. getD-set-other s i x 0 0 (λ e. omega arith) ∙ z x b)
-    (getD-set-same s i 0 0 h)
 
 -- i steps were made from x, and y is reached
 pub record Walked (f : List ℕ) (x y i : ℕ) : Type 0 where
@@ -75,9 +68,14 @@ pub record Marking (f marks : List ℕ) (x : ℕ) : Type 0 where
   pub sound : (z : ℕ) → z < length f → (getD marks z 0 ≡ 0) ⊎ ((getD marks z 0 ≡ 1) × (onCycle (length f) (image f) z ≡ true))
   pub done : (w : ℕ) → w < x → getD marks (iterate (image f) (length f) w) 0 ≡ 1
 
-pub marking-start : (f marks : List ℕ) → length marks ≡ length f → ((z : ℕ) → z < length marks → getD marks z 0 ≡ 0) → Marking f marks 0
-marking-start f marks e h =
-    record { same = e; passed = omega arith; sound = λ z b. inl (h z (omega arith)); done = λ w b. absurd (omega arith) }
+pub marking-start : (f marks : List ℕ) (n : ℕ) → marks ≡ replicate n 0 → n ≡ length f → Marking f marks 0
+marking-start f marks n m e =
+    record {
+      same = ap length m ∙ length-replicate n 0 ∙ e;
+      passed = omega arith;
+      sound = λ z b. inl (ap (λ l. getD l z 0) m ∙ getD-replicate n z 0 0 (omega arith));
+      done = λ w b. absurd (omega arith);
+    }
 
 pub marking-next : {f marks : List ℕ} {x y : ℕ} → isTable f ≡ true → Marking f marks x → x < length f → y ≡ iterate (image f) (length f) x
     → Marking f (set marks y 1) (x + 1)

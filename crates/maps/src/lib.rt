@@ -4,6 +4,7 @@ use components::compare_generated;
 use lists::Order;
 use lists::compare;
 use lists::exchange;
+use lists::set_all;
 ghost use denote.Ref.{now};
 ghost use mathlib.Core.Path.{_≡_};
 ghost use mathlib.Core.Bool.{cond};
@@ -40,23 +41,12 @@ fn far_point(f: &[u8], x: usize) -> usize
     y
 }
 
-// Every number of `s` becomes 0.
-fn clear(s: &mut [u8])
-    ensures { λ r. ⌜ (length (now (s .exit)) ≡ length (now (s .entry))) × ((x : ℕ) → x < length (now (s .exit)) → getD (now (s .exit)) x 0 ≡ 0) ⌝ }
-{
-    let mut i = 0;
-    while i < s.len() {
-        s[i] = 0;
-        i += 1;
-    }
-}
-
 // `marks` tells the points on cycles, 1, from the others, 0.
 pub fn mark_cycles(f: &[u8], marks: &mut [u8])
     requires { ⌜ MarksAsked (now f) (now marks) ⌝ }
     ensures { λ r. ⌜ Marked (now (f .entry)) (now (marks .exit)) ⌝ }
 {
-    clear(marks);
+    set_all(marks, 0);
     let mut x = 0;
     while x < f.len() {
         let y = far_point(f, x);

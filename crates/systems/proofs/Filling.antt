@@ -24,17 +24,6 @@ use Rattle.reading.specs.Held.{Holds}
 use Rattle.systems.specs.Held.{sum, fillNumbers}
 use Rattle.systems.proofs.Firsts.{codes-first}
 
--- Ones.
-
--- the first i places hold ones, and now one place more
-pub ones-step : (s : List ℕ) (i : ℕ) → i < length s → take i s ≡ replicate i 1 → take (i + 1) (set s i 1) ≡ replicate (i + 1) 1
-ones-step s i h e = rw (add-one i, take-suc-set s i 1 h, e) (replicate-append-replicate i 1 1 ∙ ap (λ k. replicate k 1) (add-one i))
-
-pub ones-end : (s : List ℕ) (i n : ℕ) → i ≤ length s → length s ≤ i → length s ≡ n → take i s ≡ replicate i 1 → s ≡ replicate n 1
-ones-end s i n h k l e =
-    let q : i ≡ n = omega arith in
-    sym (take-all i s k) ∙ e ∙ ap (λ j. replicate j 1) q
-
 -- The first system.
 
 fixed-sizes : (n : ℕ) → map points (replicate n (point ∷ [])) ≡ replicate n 1

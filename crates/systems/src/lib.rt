@@ -3,6 +3,7 @@
 // A system is two lent slices: `sizes`, the points of each component, and `numbers`, the flat components one after another.
 use components::count;
 use generation::successor;
+use lists::set_all;
 use written::put_number;
 ghost use denote.Ref.{now};
 ghost use mathlib.Core.Path.{_≡_};
@@ -27,25 +28,14 @@ pub enum Stepped {
     Last,
 }
 
-// Every number becomes 1: cycles, whatever the sizes are.
-pub fn ones(s: &mut [u8])
-    ensures { λ r. ⌜ now (s .exit) ≡ replicate (length (now (s .entry))) 1 ⌝ }
-{
-    let mut i = 0;
-    while i < s.len() {
-        s[i] = 1;
-        i += 1;
-    }
-}
-
 // The first system: as many fixed points as the slices have places.
 pub fn first_system(sizes: &mut [u8], numbers: &mut [u8])
     requires { ⌜ length (now sizes) ≡ length (now numbers) ⌝ }
     ensures { λ r. ⌜ ((S : System) → first (codes (length (now (sizes .entry)))) ≡ some S
         → Holds S (now (sizes .exit)) (now (numbers .exit))) ⌝ }
 {
-    ones(sizes);
-    ones(numbers);
+    set_all(sizes, 1);
+    set_all(numbers, 1);
 }
 
 // The next size list in place of the one in the first m places: the last two sizes a and b give way to the least list of a + b from a + 1 on.
@@ -79,7 +69,7 @@ fn fill(d: &[u8], out: &mut [u8])
         bytes::copy(d, out);
         return;
     }
-    ones(out);
+    set_all(out, 1);
 }
 
 // The components with these sizes, from `d` on: `d` again where the size is that of `d`, else the cycle.
@@ -161,7 +151,7 @@ pub fn next_system(
     if k == 0 {
         return Stepped::Last;
     }
-    ones(numbers);
+    set_all(numbers, 1);
     Stepped::Next(k)
 }
 

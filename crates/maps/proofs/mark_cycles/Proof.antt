@@ -14,14 +14,13 @@ Inv-loop f marks₀ x₀ marks x = Marking f marks x
 abbrev μ-loop : tie.MeasureT-loop
 μ-loop f marks₀ x₀ marks x = length f - x
 
-clear-requires : tie.Need-clear-requires Inv-loop μ-loop
-clear-requires c κs = search needs
+set-all-requires : tie.Need-set-all-requires Inv-loop μ-loop
+set-all-requires c κs = search needs
 
 loop-holds : tie.Need-loop-holds Inv-loop μ-loop
 loop-holds c =
-    let cleared = c .before .before .clear .ensures in
     let s = c .before .before .before .before .before .before in
-    marking-start (now (s .args .f)) (c .before .before .clear .last .0) (cleared .0 ∙ s .pre .room) (cleared .1)
+    marking-start (now (s .args .f)) _ _ (c .before .before .set-all .ensures) (s .pre .room)
 
 far-point-requires : tie.Need-far-point-requires Inv-loop μ-loop
 far-point-requires c κs = record { table = c .before .before .before .before .before .before .before .before .pre .table; here = omega arith }
@@ -50,7 +49,7 @@ mark-cycles-spec =
     (tie.spec
     Inv-loop
     μ-loop
-    clear-requires
+    set-all-requires
     loop-holds
     far-point-requires
     slice-write-marks

@@ -18,8 +18,8 @@ returns c =
     let a = c .before .before .before .before .before .before .before .args in
     fill-copied (now (a .d)) (now (a .out)) _ (omega arith) (c .before .before .copy .ensures .1)
 
-ones-requires : tie.Need-ones-requires
-ones-requires c κs = search needs
+set-all-requires : tie.Need-set-all-requires
+set-all-requires c κs = search needs
 
 same-length-2 : tie.Need-same-length-2
 same-length-2 c = search needs
@@ -27,8 +27,8 @@ same-length-2 c = search needs
 returns-2 : tie.Need-returns-2
 returns-2 c =
     let a = c .before .before .before .before .before .before .before .args in
-    c .before .before .ones .ensures ∙ sym (fill-other (now (a .d)) (length (now (a .out))) (λ e. omega arith))
+    c .before .before .set-all .ensures ∙ sym (fill-other (now (a .d)) (length (now (a .out))) (λ e. omega arith))
 
 pub fill-spec : {M : Type 1} → statement M
 fill-spec =
-    tie.close (tie.spec copy-requires same-length returns ones-requires same-length-2 returns-2)
+    tie.close (tie.spec copy-requires same-length returns set-all-requires same-length-2 returns-2)

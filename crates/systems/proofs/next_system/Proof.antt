@@ -59,8 +59,8 @@ returns-2 c =
     let w = c .before .before .before .before .before .before .before .before .before .before .before .before .before .before .before .before .before .before .before .before .before .before .before .before .before .pre in
     step-ends w (found .result) _ (found .ensures) (c .before .before .before .before .before .if1 .left) (next .result) _ (next .ensures) (c .if2 .taken) _
 
-ones-requires : tie.Need-ones-requires
-ones-requires c κs = search needs
+set-all-requires : tie.Need-set-all-requires
+set-all-requires c κs = search needs
 
 same-length-11 : tie.Need-same-length-11
 same-length-11 c = search needs
@@ -83,7 +83,7 @@ returns-3 c =
     let next = c .before .before .before .before .before .before .before .next-sizes in
     let w = c .before .before .before .before .before .before .before .before .before .before .before .before .before .before .before .before .before .before .before .before .before .before .before .before .before .before .before .before .before .pre in
     let none-found = c .before .before .before .before .before .before .before .before .before .if1 .left in
-    let all = c .before .before .ones .ensures in
+    let all = c .before .before .set-all .ensures in
     step-cycles w (found .result) _ (found .ensures) none-found (next .result) _ (next .ensures) (λ e. omega arith) (found .kept .1 .0) _ all
 
 pub next-system-spec : {M : Type 1} → statement M
@@ -106,7 +106,7 @@ next-system-spec =
     same-length-9
     same-length-10
     returns-2
-    ones-requires
+    set-all-requires
     same-length-11
     same-length-12
     same-length-13
