@@ -35,7 +35,7 @@ module _ {f : List ℕ} (t : Table f) where
   code-asked room code e k = record { checked = t; points-room = places room e; code-room = k }
 
   pub marks-asked : (room : List ℕ) → length room ≡ 200 → MarksAsked f (take (length f) room)
-  marks-asked room e = record { table = t .table; room = places room e }
+  marks-asked room e = record { table = t .table; room = places room e; small = t .small }
 
   module _ {marks : List ℕ} (k : Marked f marks) (rest : List ℕ) where
     pub marks-within : length f ≤ length (marks ++ rest)

@@ -119,10 +119,6 @@ module _ (s : List ℕ) (i : ℕ) (t u : Tree) (c : Component) (is : s ≡ flat 
       ∙ drop-append-le k (code u) (flat c) h)
       ∙ take-at (drop k (code u)) (flat c) (j + getD s j 0 - (j + k)) n
 
--- what a copy leaves where the two are equally long
-pub copied : (s out : List ℕ) → length out ≡ length s → take (length s) s ++ drop (length s) out ≡ s
-copied s out e = rw (take-length s, ← e, drop-length out) (append-nil s)
-
 -- the last branch of a tree is the end of its code: nothing where it has none
 pub last-branch-atMost : (u t : Tree) → atMost (lex compare) (drop (lastStart u) (code u)) (code t) ≡ lastAtMost u t
 unfolding lastAtMost compareTree

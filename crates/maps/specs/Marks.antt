@@ -2,7 +2,7 @@
 use mathlib.Core.Path.{_≡_}
 use mathlib.Core.Bool.{true, cond}
 use mathlib.Core.List.{List}
-use Prim.Native.Nat.{ℕ, zero, suc, _<_}
+use Prim.Native.Nat.{ℕ, zero, suc, _<_, _≤_}
 use lib.ListN.{length, getD}
 use Rattle.patterns.specs.Table.{image, isTable, onCycle}
 
@@ -11,15 +11,23 @@ abbrev pub iterate : (ℕ → ℕ) → ℕ → ℕ → ℕ
 iterate f zero x = x
 iterate f (suc k) x = iterate f k (f x)
 
--- x is a point of the table f
-pub record PointOf (f : List ℕ) (x : ℕ) : Type 0 where
-  pub table : isTable f ≡ true
-  pub here : x < length f
-
--- a table, and room for one mark for each point
+-- a table of at most 200 points, and room for one mark for each point
 pub record MarksAsked (f marks : List ℕ) : Type 0 where
   pub table : isTable f ≡ true
   pub room : length marks ≡ length f
+  pub small : length f ≤ 200
+
+-- the images of a table are points, and out has a place for each point
+pub record Images (s out : List ℕ) : Type 0 where
+  pub inside : (x : ℕ) → x < length s → image s x < length s
+  pub room : length out ≡ length s
+
+-- far sends each point of f where so many steps lead, at least as many as there are points
+pub record Far (f far : List ℕ) : Type 0 where
+  pub steps : ℕ
+  pub enough : length f ≤ steps
+  pub places : length far ≡ length f
+  pub images : (x : ℕ) → x < length f → getD far x 0 ≡ iterate (image f) steps x
 
 -- the points on cycles are marked by 1, the others by 0
 pub record Marked (f marks : List ℕ) : Type 0 where

@@ -1,4 +1,5 @@
 // Tables: marking cycles, the code of a map with its points beside it, and the map of a code.
+use bytes::copy;
 use components::at_most;
 use components::compare_generated;
 use lists::Order;
@@ -7,8 +8,8 @@ use lists::exchange;
 use lists::set_all;
 ghost use denote.Ref.{now};
 ghost use mathlib.Core.Path.{_≡_};
-ghost use mathlib.Core.Bool.{cond};
-ghost use mathlib.Core.List.{[], _∷_, _++_, map};
+ghost use mathlib.Core.Bool.{true, cond};
+ghost use mathlib.Core.List.{List, [], _∷_, _++_, map};
 ghost use Prim.Native.Nat.{ℕ, _+_, _≤_, _<_, compare as compareNumbers};
 ghost use lib.Dec.{ltb};
 ghost use lib.ListN.{length, getD, take, drop};
@@ -18,27 +19,70 @@ ghost use Rattle.patterns.specs.Tree.{Tree, code};
 ghost use Rattle.patterns.specs.Component.{Component, flat, points as pointsOf};
 ghost use Rattle.patterns.specs.System.{System, compareGenerated};
 ghost use Rattle.patterns.specs.MapOf.{innerImages, cycleImages, mapOf};
-ghost use Rattle.patterns.specs.Table.{image, hangsAt, leadsCycle};
+ghost use Rattle.patterns.specs.Table.{image, isTable, hangsAt, leadsCycle};
 ghost use Rattle.written.specs.Putting.{placed};
 ghost use Rattle.maps.specs.Images.{Stands, TreeStands, ComponentStands, HeldMap};
 ghost use Rattle.components.specs.Held.{Held};
 ghost use Rattle.maps.specs.Plants.{plantAt, plantsAlong};
 ghost use Rattle.maps.specs.Writing.{pointsBefore, RowStands, Inserts, TreeAsked, CycleAsked, Planted, LeastStart, ComponentWritten};
 ghost use Rattle.maps.specs.Systems.{BothValid, PlaceAsked, PlaceFound, InsertAsked, ComponentInserted, SystemAsked, SystemWritten};
-ghost use Rattle.maps.specs.Marks.{iterate, PointOf, MarksAsked, Marked, MarkedPoint};
+ghost use Rattle.maps.specs.Marks.{MarksAsked, Images, Far, Marked, MarkedPoint};
 
-// The point that is reached from `x` in as many steps as there are points.
-fn far_point(f: &[u8], x: usize) -> usize
-    requires { ⌜ PointOf (now f) x ⌝ }
-    ensures { λ r. ⌜ (r < length (now (f .entry))) × (r ≡ iterate (image (now (f .entry))) (length (now (f .entry))) x) ⌝ }
+// Room for a number for each point.
+fn points_room() -> [u8; 200]
+    ensures { λ r. ⌜ length r ≡ 200 ⌝ }
 {
-    let mut y = x;
-    let mut i = 0;
-    while i < f.len() {
-        y = f[y] as usize;
-        i += 1;
+    [0u8; 200]
+}
+
+// `out` is the table of two steps of the table `s`.
+fn square(s: &[u8], out: &mut [u8])
+    requires { ⌜ Images (now s) (now out) ⌝ }
+    ensures { λ r. ⌜ now (out .exit) ≡ map (image (now (s .entry))) (now (s .entry)) ⌝ }
+{
+    let mut x = 0;
+    while x < s.len() {
+        let y = s[x] as usize;
+        out[x] = s[y];
+        x += 1;
     }
-    y
+}
+
+// `far` is the table of at least as many steps as there are points: squaring doubles the steps.
+fn far_points(f: &[u8], far: &mut [u8], work: &mut [u8])
+    requires { ⌜ MarksAsked (now f) (now far) × (length (now work) ≡ length (now f)) ⌝ }
+    ensures { λ r. ⌜ Far (now (f .entry)) (now (far .exit)) ⌝ }
+{
+    copy(f, far);
+    let mut steps = 1;
+    while steps < f.len() {
+        square(far, work);
+        copy(work, far);
+        steps += steps;
+    }
+}
+
+// Marks the images of all points.
+fn mark_images(far: &[u8], marks: &mut [u8])
+    requires { ⌜ Images (now far) (now marks) ⌝ }
+    ensures { λ r. ⌜ ((f : List ℕ) → isTable f ≡ true → Far f (now (far .entry)) → Marked f (now (marks .exit))) ⌝ }
+{
+    set_all(marks, 0);
+    let mut x = 0;
+    while x < far.len() {
+        let y = far[x] as usize;
+        marks[y] = 1;
+        x += 1;
+    }
+}
+
+// Marks the points on cycles: those that are reached in many steps. The table of these steps stands in `far`.
+fn mark_reached(f: &[u8], far: &mut [u8], marks: &mut [u8])
+    requires { ⌜ MarksAsked (now f) (now far) × (length (now marks) ≡ length (now f)) ⌝ }
+    ensures { λ r. ⌜ Marked (now (f .entry)) (now (marks .exit)) ⌝ }
+{
+    far_points(f, far, marks);
+    mark_images(far, marks);
 }
 
 // `marks` tells the points on cycles, 1, from the others, 0.
@@ -46,13 +90,8 @@ pub fn mark_cycles(f: &[u8], marks: &mut [u8])
     requires { ⌜ MarksAsked (now f) (now marks) ⌝ }
     ensures { λ r. ⌜ Marked (now (f .entry)) (now (marks .exit)) ⌝ }
 {
-    set_all(marks, 0);
-    let mut x = 0;
-    while x < f.len() {
-        let y = far_point(f, x);
-        marks[y] = 1;
-        x += 1;
-    }
+    let mut far = points_room();
+    mark_reached(f, &mut far[..f.len()], marks);
 }
 
 // `y` goes to `x` and is on no cycle.

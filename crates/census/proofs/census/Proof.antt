@@ -21,7 +21,7 @@ slice-aggregate-mark-cycles : tie.Need-slice-aggregate-mark-cycles
 slice-aggregate-mark-cycles c = sym (zeros-length 201 (length (now (c .before .before .before .before .args .f))) (c .before .before .no-points .ensures) (omega arith))
 
 mark-cycles-requires : tie.Need-mark-cycles-requires
-mark-cycles-requires c κs = record { table = c .before .before .before .before .pre .0; room = zeros-length 201 (length (now (c .before .before .before .before .args .f))) (c .before .before .no-points .ensures) (omega arith) }
+mark-cycles-requires c κs = record { table = c .before .before .before .before .pre .0; room = zeros-length 201 (length (now (c .before .before .before .before .args .f))) (c .before .before .no-points .ensures) (omega arith); small = c .before .before .before .before .pre .1 }
 
 array-share-prefix-marks : tie.Need-array-share-prefix-marks
 array-share-prefix-marks c = rw length-append (omega (arith, c .before .mark-cycles .ensures .same))
