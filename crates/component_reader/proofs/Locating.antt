@@ -78,6 +78,9 @@ module _ {sizes numbers : List ℕ} (w : HeldSystem sizes numbers) where
         let c = getD (w .system) i [] in
         omega (arith, ap length (part-is-flat (w .system) (w .holds)), length-flat c, part-fits (w .system) i here, w .small)
 
+    pub start-bound : start ≤ 804
+    start-bound = omega (arith, f (w .system) (w .holds) .begins, component-ends (w .system) i here .0, end-bound w i here)
+
     module _ (trees front rest : ℕ) (p : (c : Component) → part ≡ flat c → trees ≡ length c) (q : front ≡ length (writeNumber trees)) (r : rest ≡ length (bytes part)) where
       -- where it ends
       pub next-end : (S : System) → Holds S sizes numbers → start + front + rest ≡ startOf S (i + 1)
