@@ -1,4 +1,3 @@
-use denote.Ref.{now}
 use mathlib.Core.Path.{refl}
 use native.Mathlib.Nat.{add-comm, le-of-lt}
 use native.Mathlib.Omega.{arith}
