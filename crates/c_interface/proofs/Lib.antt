@@ -1,3 +1,4 @@
 -- What the proofs of the entries for C callers share.
 pub mod Fitting
 pub mod Measures
+pub mod Telling
