@@ -65,6 +65,10 @@ int64_t lethmuok_height(const uint8_t *table, size_t n);
 /* The length of the longest cycle of a map. */
 int64_t lethmuok_longest_cycle(const uint8_t *table, size_t n);
 
+/* Where the bytes of the component at a position, counted from 0, begin in a code; and where they end, which is the place after the last of them. */
+int64_t lethmuok_component_start(const uint8_t *code, size_t code_len, size_t position);
+int64_t lethmuok_component_end(const uint8_t *code, size_t code_len, size_t position);
+
 #ifdef __cplusplus
 }
 #endif

@@ -99,3 +99,10 @@ def census(table):
     entries = _call("lethmuok_census", _given(table), lengths, counts)
     cycles = dict(zip(lengths[:entries], counts[:entries]))
     return cycles, _call("lethmuok_height", _given(table)), _call("lethmuok_longest_cycle", _given(table))
+
+
+def component(code, position):
+    """The bytes of the component at a position, counted from 0."""
+    start = _call("lethmuok_component_start", _given(code), position)
+    end = _call("lethmuok_component_end", _given(code), position)
+    return bytes(code[start:end])

@@ -50,6 +50,8 @@ mod c {
         pub fn lethmuok_census(table: *const u8, n: usize, lengths: *mut u8, lengths_len: usize, counts: *mut u8, counts_len: usize) -> i64;
         pub fn lethmuok_height(table: *const u8, n: usize) -> i64;
         pub fn lethmuok_longest_cycle(table: *const u8, n: usize) -> i64;
+        pub fn lethmuok_component_start(code: *const u8, code_len: usize, position: usize) -> i64;
+        pub fn lethmuok_component_end(code: *const u8, code_len: usize, position: usize) -> i64;
     }
 }
 
@@ -120,4 +122,15 @@ pub fn height(table: &[u8]) -> Reply {
 /// The length of the longest cycle of a map.
 pub fn longest_cycle(table: &[u8]) -> Reply {
     unsafe { c::lethmuok_longest_cycle(table.as_ptr(), table.len()) }.into()
+}
+
+/// The bytes of the component at a position, counted from 0, as a part of the code.
+pub fn component(code: &[u8], position: usize) -> Result<&[u8], Refusal> {
+    let start = unsafe { c::lethmuok_component_start(code.as_ptr(), code.len(), position) }.into();
+    let end = unsafe { c::lethmuok_component_end(code.as_ptr(), code.len(), position) }.into();
+    match (start, end) {
+        (Reply::Number(start), Reply::Number(end)) => Ok(&code[start..end]),
+        (Reply::Refused(cause), _) => Err(cause),
+        _ => unreachable!("the library has no other answers"),
+    }
 }
