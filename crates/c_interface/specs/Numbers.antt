@@ -27,18 +27,10 @@ pub record IsomorphismReported (f g before : List ℕ) (r : ℤ) (after : List �
   pub number : r ≡ signedOf reply
   pub replied : IsomorphismReplied f g before reply after
 
--- the three numbers of a census
+-- of a census, the number of entries
 abbrev pub entriesOf : CensusAnswer → Answer
 entriesOf (census-is entries height longest) = length-is entries
 entriesOf (census-refused c) = refused c
-
-abbrev pub heightIn : CensusAnswer → Answer
-heightIn (census-is entries height longest) = length-is height
-heightIn (census-refused c) = refused c
-
-abbrev pub longestIn : CensusAnswer → Answer
-longestIn (census-is entries height longest) = length-is longest
-longestIn (census-refused c) = refused c
 
 -- the census entry replied with the number r
 pub record CensusReported (f lengths counts : List ℕ) (r : ℤ) (lengths′ counts′ : List ℕ) : Type 0 where
@@ -60,3 +52,12 @@ componentStart b i = answer (componentOf b i) (λ ends. length-is (ends .0))
 
 abbrev pub componentEnd : List ℕ → ℕ → Answer
 componentEnd b i = answer (componentOf b i) (λ ends. length-is (ends .1))
+
+-- of a census, the other two numbers
+abbrev pub heightIn : CensusAnswer → Answer
+heightIn (census-is entries height longest) = length-is height
+heightIn (census-refused c) = refused c
+
+abbrev pub longestIn : CensusAnswer → Answer
+longestIn (census-is entries height longest) = length-is longest
+longestIn (census-refused c) = refused c

@@ -14,8 +14,8 @@ ghost use mir.Syntax.{w64};
 ghost use mir.Val.{SFits};
 ghost use Rattle.patterns.specs.Entry.{Answer.refused, numberOf, acceptOf, firstOf, successorOf, codeOfMap, mapOfCode};
 ghost use Rattle.written.specs.Putting.{answerOf};
-ghost use Rattle.engine.specs.Answers.{successorAnswer, isomorphismAnswer, censusAnswer};
-ghost use Rattle.c_interface.specs.Numbers.{signedOf, entriesOf, heightIn, longestIn, Reported, IsomorphismReported, CensusReported, heightOf, longestOf};
+ghost use Rattle.engine.specs.Answers.{censusAnswer};
+ghost use Rattle.c_interface.specs.Numbers.{signedOf, heightIn, longestIn, Reported, IsomorphismReported, CensusReported, heightOf, longestOf};
 ghost use Rattle.c_interface.specs.Numbers.{componentStart, componentEnd};
 
 // The number of a refusal.
@@ -51,63 +51,6 @@ fn number(reply: Reply) -> i64
     match reply {
         Reply::Length(n) => counted(n),
         Reply::Refused(cause) => refusal(cause),
-    }
-}
-
-// The number of a successor's reply.
-fn successor_number(reply: Successor) -> i64
-    requires { ⌜ SFits w64 (signedOf (successorAnswer reply)) ⌝ }
-    ensures { λ r. ⌜ r ≡ signedOf (successorAnswer reply) ⌝ }
-{
-    match reply {
-        Successor::Length(n) => counted(n),
-        Successor::Last => -10,
-        Successor::Refused(cause) => refusal(cause),
-    }
-}
-
-// The number of an isomorphism's reply.
-fn isomorphism_number(reply: Isomorphism) -> i64
-    requires { ⌜ SFits w64 (signedOf (isomorphismAnswer reply)) ⌝ }
-    ensures { λ r. ⌜ r ≡ signedOf (isomorphismAnswer reply) ⌝ }
-{
-    match reply {
-        Isomorphism::Points(n) => counted(n),
-        Isomorphism::Nothing => -11,
-        Isomorphism::Refused(cause) => refusal(cause),
-    }
-}
-
-// The number of entries of a census.
-fn entries_number(reply: Census) -> i64
-    requires { ⌜ SFits w64 (signedOf (entriesOf (censusAnswer reply))) ⌝ }
-    ensures { λ r. ⌜ r ≡ signedOf (entriesOf (censusAnswer reply)) ⌝ }
-{
-    match reply {
-        Census::Counted(n, _, _) => counted(n),
-        Census::Refused(cause) => refusal(cause),
-    }
-}
-
-// The height in a census.
-fn height_number(reply: Census) -> i64
-    requires { ⌜ SFits w64 (signedOf (heightIn (censusAnswer reply))) ⌝ }
-    ensures { λ r. ⌜ r ≡ signedOf (heightIn (censusAnswer reply)) ⌝ }
-{
-    match reply {
-        Census::Counted(_, height, _) => counted(height),
-        Census::Refused(cause) => refusal(cause),
-    }
-}
-
-// The longest cycle in a census.
-fn longest_number(reply: Census) -> i64
-    requires { ⌜ SFits w64 (signedOf (longestIn (censusAnswer reply))) ⌝ }
-    ensures { λ r. ⌜ r ≡ signedOf (longestIn (censusAnswer reply)) ⌝ }
-{
-    match reply {
-        Census::Counted(_, _, longest) => counted(longest),
-        Census::Refused(cause) => refusal(cause),
     }
 }
 
@@ -147,7 +90,11 @@ pub extern "C" fn lethmuok_first(n: usize, out: &mut [u8]) -> i64
 pub extern "C" fn lethmuok_successor(code: &[u8], out: &mut [u8]) -> i64
     ensures { λ r. ⌜ Reported (successorOf (now (code .entry))) (now (out .entry)) r (now (out .exit)) ⌝ }
 {
-    successor_number(engine::successor(code, out))
+    match engine::successor(code, out) {
+        Successor::Length(n) => counted(n),
+        Successor::Last => -10,
+        Successor::Refused(cause) => refusal(cause),
+    }
 }
 
 // Writes the code of the map `table`.
@@ -171,7 +118,11 @@ pub extern "C" fn lethmuok_map_of_code(code: &[u8], out: &mut [u8]) -> i64
 pub extern "C" fn lethmuok_isomorphism(f: &[u8], g: &[u8], out: &mut [u8]) -> i64
     ensures { λ r. ⌜ IsomorphismReported (now (f .entry)) (now (g .entry)) (now (out .entry)) r (now (out .exit)) ⌝ }
 {
-    isomorphism_number(engine::isomorphism(f, g, out))
+    match engine::isomorphism(f, g, out) {
+        Isomorphism::Points(n) => counted(n),
+        Isomorphism::Nothing => -11,
+        Isomorphism::Refused(cause) => refusal(cause),
+    }
 }
 
 // Writes the census of the map `table`, cycle lengths and numbers of cycles beside each other.
@@ -179,7 +130,10 @@ pub extern "C" fn lethmuok_isomorphism(f: &[u8], g: &[u8], out: &mut [u8]) -> i6
 pub extern "C" fn lethmuok_census(table: &[u8], lengths: &mut [u8], counts: &mut [u8]) -> i64
     ensures { λ r. ⌜ CensusReported (now (table .entry)) (now (lengths .entry)) (now (counts .entry)) r (now (lengths .exit)) (now (counts .exit)) ⌝ }
 {
-    entries_number(engine::census(table, lengths, counts))
+    match engine::census(table, lengths, counts) {
+        Census::Counted(n, _, _) => counted(n),
+        Census::Refused(cause) => refusal(cause),
+    }
 }
 
 // The greatest distance of a point of the map `table` from its cycle.
@@ -187,7 +141,10 @@ pub extern "C" fn lethmuok_census(table: &[u8], lengths: &mut [u8], counts: &mut
 pub extern "C" fn lethmuok_height(table: &[u8]) -> i64
     ensures { λ r. ⌜ r ≡ signedOf (heightOf (now (table .entry))) ⌝ }
 {
-    height_number(measure(table))
+    match measure(table) {
+        Census::Counted(_, height, _) => counted(height),
+        Census::Refused(cause) => refusal(cause),
+    }
 }
 
 // The length of the longest cycle of the map `table`.
@@ -195,7 +152,10 @@ pub extern "C" fn lethmuok_height(table: &[u8]) -> i64
 pub extern "C" fn lethmuok_longest_cycle(table: &[u8]) -> i64
     ensures { λ r. ⌜ r ≡ signedOf (longestOf (now (table .entry))) ⌝ }
 {
-    longest_number(measure(table))
+    match measure(table) {
+        Census::Counted(_, _, longest) => counted(longest),
+        Census::Refused(cause) => refusal(cause),
+    }
 }
 
 // Where the bytes of the component at `position`, counted from 0, begin in `code`.
