@@ -9,7 +9,7 @@ import plain_model as model
 
 DATA = os.path.join(os.path.dirname(os.path.abspath(__file__)), "..", "crates", "checks", "data")
 ACCEPT, FIRST, SUCCESSOR, CODE_OF_MAP, MAP_OF_CODE, ISOMORPHISM, CENSUS = range(1, 8)
-KINDS = {"length": 0, "last": 1, "none": 2, "refused": 3, "census": 0}
+KINDS = {"length": 0, "last": 1, "none": 2, "refused": 3, "census": 0, "part": 0}
 WIDE = 1000
 
 
@@ -86,6 +86,12 @@ def isomorphism(f, g, room, answer):
 
 def census(table, room=19):
     return case(CENSUS, room, stretch(table), [0, 0], model.census(table, room))
+
+
+def component(code, position):
+    kind, result = model.component(code, position)
+    value, part = result if kind == "part" else (result, [])
+    return stretch(code) + [position, KINDS[kind], value] + stretch(part)
 
 
 def save(name, lines):
@@ -374,6 +380,28 @@ def codes_of_maps():
     return lines
 
 
+def components():
+    """Each component of codes of up to 4 points and of 200 points, the positions after the last, and codes with a fault of their own."""
+    code = [8, 3, 2, 1, 1, 1, 3, 2, 1, 2, 1, 2, 1]
+    parts = [[2, 1, 1], [1, 3, 2, 1], [2, 1, 2, 1]]
+    lines = [component(code, i) for i in range(4)]
+    assert [line[-len(part) :] for line, part in zip(lines, parts)] == parts and lines[3][-4:] == [3, 9, 0, 0]
+    lines.append(component([0, 0], 0))
+    assert lines[-1][-4:] == [3, 9, 0, 0]
+    for n in range(5):
+        for system in plain_listing.systems(n):
+            lines += [component(plain_listing.numbers(n, system), i) for i in range(len(system) + 1)]
+    faults = [[], [128], [129, 0], [128, 128], [201, 1], [0, 1], [1, 0], [200, 1], [1, 1, 1, 1, 9], [3, 1, 2, 2, 1, 1], code[:-1], code + [1], code + [128]]
+    lines += [component(fault, i) for fault in faults for i in (0, 1, 99999)]
+    kept = ("200 fixed points", "a cycle of 200", "a path into a fixed point", "two components of 100 that differ at a leaf", "four random components of 50", "cycles of 1 to 19 and 10 leaves")
+    for name, table in shapes():
+        if name in kept:
+            written = model.code_of_map(table, WIDE)[1]
+            m = len(model.accepted(written))
+            lines += [component(written, i) for i in sorted({0, 1, 2, m // 2, m - 1, m, m + 1, 200, 99999})]
+    return lines
+
+
 def pairs():
     numbers = Numbers(17)
     return [stretch(table) + stretch(renamed(table, numbers.shuffled(200))) for _, table in shapes()]
@@ -394,6 +422,7 @@ def main():
     save("steps", steps())
     save("codes", codes_of_maps())
     save("census", [census(table) for _, table in shapes()])
+    save("components", components())
     save("pairs", pairs())
 
 

@@ -21,12 +21,18 @@ def written_number(x):
     return [x] if x < 128 else [x % 128 + 128, x // 128]
 
 
-def written(system):
-    """n, m, and for each component its number of trees and its tree codes, as bytes."""
-    numbers = [sum(map(points, system)), len(system)]
-    for c in system:
-        numbers += [len(c)] + [x for t in c for x in t]
+def written_numbers(numbers):
     return [b for x in numbers for b in written_number(x)]
+
+
+def written_component(c):
+    """The number of trees and the tree codes, as bytes."""
+    return written_numbers([len(c)] + [x for t in c for x in t])
+
+
+def written(system):
+    """n, m, and each component, as bytes."""
+    return written_numbers([sum(map(points, system)), len(system)]) + [b for c in system for b in written_component(c)]
 
 
 def cut(code):
@@ -322,3 +328,15 @@ def census(table, room):
     if len(rows) > room:
         return "refused", ROOM
     return "census", (rows, height, longest)
+
+
+def component(code, position):
+    """Where the bytes of the component at this position begin in the code, and these bytes; or a refusal, 9 coming last."""
+    try:
+        system = accepted(code)
+        if position >= len(system):
+            raise Refused(POSITION)
+    except Refused as cause:
+        return "refused", cause.args[0]
+    after = [b for c in system[position:] for b in written_component(c)]
+    return "part", (len(code) - len(after), written_component(system[position]))

@@ -1,8 +1,9 @@
 // The comparisons of document 01, "The marker's guard", last paragraph: the examples, totals, a plain listing made by other means, damaged codes and hostile inputs
-// with the refusal of each, and runs on maps of 200 points. Each group prints one line: of how many comparisons how many hold.
+// with the refusal of each, the component reader, and runs on maps of 200 points. Each group prints one line: of how many comparisons how many hold.
 pub mod cases;
 pub mod lists;
 pub mod numbers;
+pub mod reader;
 pub mod runs;
 
 use libc::STDOUT_FILENO;
@@ -71,6 +72,18 @@ fn run_file(name: &[u8], group: &[u8]) {
         &mut counts,
     );
     report(group, score);
+}
+
+// The cases of the component reader.
+fn run_reader() {
+    let mut file = io::large_buffer();
+    let size = load(b"components", &mut file);
+    let mut code = output_room();
+    let mut part = output_room();
+    report(
+        b"component reader",
+        reader::run_shown(&file[0..size], &mut code, &mut part),
+    );
 }
 
 // Whether the listing of n points is that of its file.
@@ -172,5 +185,6 @@ pub fn run() {
     run_file(b"steps", b"successors");
     run_file(b"codes", b"codes of maps and maps of codes");
     run_file(b"census", b"census");
+    run_reader();
     run_maps();
 }

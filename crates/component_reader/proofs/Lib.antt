@@ -2,3 +2,4 @@
 pub mod Widths
 pub mod Locating
 pub mod Showing
+pub mod Theorems

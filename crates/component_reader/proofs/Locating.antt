@@ -1,21 +1,22 @@
 -- Where the components of a system begin and end in its written code: one component after another, as far as their bytes reach.
 use mathlib.Core.Path.{_≡_, refl, ap, sym, _∙_}
 use mathlib.Core.List.{List, [], _∷_, _++_, append-nil}
-use Prim.Native.Nat.{ℕ, _+_, _-_, _*_, _≤_, _<_}
+use Prim.Native.Nat.{ℕ, _+_, _-_, _≤_, _<_}
 use native.Mathlib.Numerals.{add-one}
 use native.Mathlib.Omega.{arith}
 use borrow.Author.Tests.{lt-ltb, le-ltb}
 use lib.ListN.{length, take, drop, getD, length-append}
 use lib.Seq.{take-suc}
-use Rattle.lists.specs.Select.{total}
 use Rattle.lists.proofs.Permute.{total-append}
-use Rattle.patterns.specs.Component.{Component, points, flat}
+use Rattle.lists.proofs.Tests.{cond-true, cond-false}
+use Rattle.patterns.specs.Component.{Component, flat}
 use Rattle.patterns.specs.System.{System, weight}
-use Rattle.patterns.specs.Written.{componentNumbers, numbers as numbersOf, writeNumber, bytes, written, startOf}
+use Rattle.patterns.specs.Written.{numbers as numbersOf, writeNumber, bytes, written, startOf}
+use Rattle.patterns.specs.Reading.{done}
 use Rattle.patterns.proofs.Trees.{length-flat}
 use Rattle.components.specs.Held.{Held}
 use Rattle.reading.specs.Held.{Holds, HeldSystem}
-use Rattle.systems.proofs.Numbers.{write-length, bytes-length}
+use Rattle.systems.proofs.Numbers.{bytes-length}
 use Rattle.systems.proofs.Readback.{components-points, length-components}
 use Rattle.systems.proofs.Parts.{part-fits, held-count, held-points, held-fits, held-part, held-next}
 use Rattle.systems.proofs.WrittenBack.{componentBytes, component-ends}
@@ -100,9 +101,9 @@ module _ {sizes numbers : List ℕ} (w : HeldSystem sizes numbers) where
       -- it is the one asked for
       pub located : (position : ℕ) → i ≡ position → (S : System) → Holds S sizes numbers → part-is start (start + front + rest) ≡ partAnswered (componentIn S position)
       located position e S h =
-          let t : i < length S = omega (arith, held-count h) in
-          rw (← e, lt-ltb i (length S) t, f S h .begins) (ap (part-is (startOf S i)) (sym (ap (λ s. s + front + rest) (f S h .begins)) ∙ next-end S h))
+          let found : componentIn S i ≡ done (startOf S i, startOf S (i + 1)) = cond-true _ _ (lt-ltb i (length S) (omega (arith, held-count h))) in
+          rw (← e, found, f S h .begins) (ap (part-is (startOf S i)) (sym (ap (λ s. s + front + rest) (f S h .begins)) ∙ next-end S h))
 
 -- there is no component of that position
 pub not-located : {sizes numbers : List ℕ} (position : ℕ) → length sizes ≤ position → (S : System) → Holds S sizes numbers → part-refused 9 ≡ partAnswered (componentIn S position)
-not-located position k S h = rw (le-ltb position (length S) (omega (arith, held-count h)))
+not-located position k S h = sym (ap partAnswered (cond-false _ _ (le-ltb position (length S) (omega (arith, held-count h)))))

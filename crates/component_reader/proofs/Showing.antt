@@ -13,7 +13,7 @@ use lib.Seq.{take-nil}
 use Rattle.lists.proofs.Tests.{by-test}
 use Rattle.patterns.specs.declared.Refusal.{Refusal}
 use Rattle.patterns.specs.System.{System}
-use Rattle.patterns.specs.Written.{componentNumbers, bytes, written, startOf}
+use Rattle.patterns.specs.Written.{componentNumbers, bytes, startOf}
 use Rattle.patterns.specs.Reading.{Result, done, fault, andThen, accepted}
 use Rattle.patterns.specs.Entry.{numberOf, componentOf}
 use Rattle.systems.proofs.Bounds.{allBelow, below-at}

@@ -1,13 +1,13 @@
 -- How many bytes numbers take, and where the components of a system begin.
-use mathlib.Core.Path.{_≡_, refl, ap, sym, _∙_}
-use mathlib.Core.List.{List, [], _∷_, _++_, append-nil}
-use Prim.Native.Nat.{ℕ, _+_, _*_, _≤_, _<_}
+use mathlib.Core.Path.{_≡_, ap, _∙_}
+use mathlib.Core.List.{List, [], _∷_, append-nil}
+use Prim.Native.Nat.{ℕ, _+_, _≤_, _<_}
 use native.Mathlib.Numerals.{add-one}
 use native.Mathlib.Omega.{arith}
 use lib.ListN.{length, take, getD, length-append, length-take}
 use lib.Seq.{take-suc, take-all}
 use Rattle.patterns.specs.Written.{writeNumber, bytes}
-use Rattle.systems.proofs.Numbers.{write-length, bytes-append, bytes-length}
+use Rattle.systems.proofs.Numbers.{bytes-append, bytes-length}
 
 -- the first i + 1 numbers take as many bytes as the first i and one number more
 pub widths-next : (s : List ℕ) (i : ℕ) → i < length s → length (bytes (take (i + 1) s)) ≡ length (bytes (take i s)) + length (writeNumber (getD s i 0))

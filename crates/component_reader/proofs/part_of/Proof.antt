@@ -1,4 +1,3 @@
-use denote.Ref.{now}
 use mathlib.Core.Path.{refl}
 use native.Mathlib.Nat.{add-comm, le-of-lt}
 use native.Mathlib.Omega.{arith}
@@ -14,21 +13,21 @@ enum-known-start : tie.Need-enum-known-start
 enum-known-start c = search needs
 
 sub-result : tie.Need-sub-result
-sub-result c = 
+sub-result c =
     let given = c .before .start .given in
     let a = c .before .before .before .before .before .args in
     let ends = part-within (a .code) (a .position) (c .before .before .before .stretch-of .ensures) (given .0 .0) (given .0 .1 .0) (given .1) (λ j h. omega (arith, c .before .before .before .before .shared-slice-known .given j)) in
     le-of-lt (ends .0)
 
 part-result-start : tie.Need-part-result-start
-part-result-start c = 
+part-result-start c =
     let given = c .before .start .given in
     let a = c .before .before .before .before .before .args in
     let ends = part-within (a .code) (a .position) (c .before .before .before .stretch-of .ensures) (given .0 .0) (given .0 .1 .0) (given .1) (λ j h. omega (arith, c .before .before .before .before .shared-slice-known .given j)) in
     le-of-lt (ends .0)
 
 part-result-end : tie.Need-part-result-end
-part-result-end c = 
+part-result-end c =
     let given = c .before .start .given in
     let a = c .before .before .before .before .before .args in
     let ends = part-within (a .code) (a .position) (c .before .before .before .stretch-of .ensures) (given .0 .0) (given .0 .1 .0) (given .1) (λ j h. omega (arith, c .before .before .before .before .shared-slice-known .given j)) in
@@ -47,14 +46,14 @@ part-result-end-2 : tie.Need-part-result-end-2
 part-result-end-2 c = search needs
 
 returns : tie.Need-returns
-returns c = 
+returns c =
     let given = c .before .before .start .given in
     let a = c .before .before .before .before .before .before .args in
     part-shown (a .code) (a .position) (c .before .before .before .before .stretch-of .ensures) (given .0 .0) (given .0 .1 .0) (given .1) _
     (record { bytes-are = refl; block = refl; place = add-comm (given .0 .0) (a .code .ptr .1) })
 
 returns-2 : tie.Need-returns-2
-returns-2 c = 
+returns-2 c =
     let told = c .before .enum-told .given in
     let a = c .before .before .before .before .before .args in
     nothing-shown (a .code) (a .position) (c .before .before .before .stretch-of .ensures) (told .0 .0) (told .1) _

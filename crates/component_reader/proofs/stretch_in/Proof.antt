@@ -23,12 +23,12 @@ width-requires-2 : tie.Need-width-requires-2 Inv-loop μ-loop
 width-requires-2 c κs = search needs
 
 add-start : tie.Need-add-start Inv-loop μ-loop
-add-start c = 
+add-start c =
     let start = c .before .before .before .before .args in
     omega (arith, c .before .width .ensures, c .width2 .ensures, write-length (length (now (start .numbers))) .1, write-length (length (now (start .sizes))) .1)
 
 loop-holds : tie.Need-loop-holds Inv-loop μ-loop
-loop-holds c = 
+loop-holds c =
     (omega arith, omega arith, passed-none (c .before .before .before .before .pre) (c .before .width .result) (c .width2 .result) (c .before .width .ensures) (c .width2 .ensures))
 
 shared-slice-read-to : tie.Need-shared-slice-read-to Inv-loop μ-loop
@@ -38,7 +38,7 @@ cast-to : tie.Need-cast-to Inv-loop μ-loop
 cast-to c = omega (arith, c .shared-slice-known3 .given (c .before .before .loop .i))
 
 add-to : tie.Need-add-to Inv-loop μ-loop
-add-to c = 
+add-to c =
     let l = c .before .before in
     omega (arith, next-fits (l .before .before .before .before .before .pre) (l .loop .inv .2) (omega arith))
 
@@ -49,12 +49,12 @@ part-count-start : tie.Need-part-count-start Inv-loop μ-loop
 part-count-start c = search needs
 
 part-count-end : tie.Need-part-count-end Inv-loop μ-loop
-part-count-end c = 
+part-count-end c =
     let l = c .before .before in
     next-fits (l .before .before .before .before .before .pre) (l .loop .inv .2) (omega arith)
 
 count-requires : tie.Need-count-requires Inv-loop μ-loop
-count-requires c κs = 
+count-requires c κs =
     let l = c .before .before .before in
     next-held (l .before .before .before .before .before .pre) (l .loop .inv .2) (omega arith)
 
@@ -62,7 +62,7 @@ width-requires-3 : tie.Need-width-requires-3 Inv-loop μ-loop
 width-requires-3 c κs = search needs
 
 add-trees : tie.Need-add-trees Inv-loop μ-loop
-add-trees c = 
+add-trees c =
     let l = c .before .before .before .before .before in
     omega (arith, start-bound (l .before .before .before .before .before .pre) (l .loop .inv .2) (omega arith), c .width3 .ensures, write-length (c .before .count .result) .1)
 
@@ -73,17 +73,17 @@ part-total-width-start : tie.Need-part-total-width-start Inv-loop μ-loop
 part-total-width-start c = search needs
 
 part-total-width-end : tie.Need-part-total-width-end Inv-loop μ-loop
-part-total-width-end c = 
+part-total-width-end c =
     let l = c .before .before .before .before .before in
     next-fits (l .before .before .before .before .before .pre) (l .loop .inv .2) (omega arith)
 
 total-width-requires : tie.Need-total-width-requires Inv-loop μ-loop
-total-width-requires c κs = 
+total-width-requires c κs =
     let l = c .before .before .before .before .before .before in
     next-small (l .before .before .before .before .before .pre) (l .loop .inv .2) (omega arith)
 
 add-end : tie.Need-add-end Inv-loop μ-loop
-add-end c = 
+add-end c =
     let l = c .before .before .before .before .before .before .before in
     let trees = c .before .before .before .count in
     let front = c .before .before .width3 in
@@ -91,7 +91,7 @@ add-end c =
     omega (arith, next-bound (l .before .before .before .before .before .pre) (l .loop .inv .2) (omega arith) (trees .result) (front .result) (rest .result) (trees .ensures) (front .ensures) (rest .ensures))
 
 returns : tie.Need-returns Inv-loop μ-loop
-returns c = 
+returns c =
     let l = c .before .before .before .before .before .before .before .before in
     let trees = c .before .before .before .before .count in
     let front = c .before .before .before .width3 in
@@ -105,7 +105,7 @@ loop-less : tie.Need-loop-less Inv-loop μ-loop
 loop-less c = search needs
 
 loop-again : tie.Need-loop-again Inv-loop μ-loop
-loop-again c = 
+loop-again c =
     let l = c .before .before .before .before .before .before .before .before in
     let trees = c .before .before .before .before .count in
     let front = c .before .before .before .width3 in

@@ -30,43 +30,43 @@ enum-known-m : tie.Need-enum-known-m
 enum-known-m c = search needs
 
 array-share-prefix-sizes : tie.Need-array-share-prefix-sizes
-array-share-prefix-sizes c = 
+array-share-prefix-sizes c =
     let given = c .before .m .given in
     let taken = code-taken (now (c .before .before .before .before .before .before .before .before .before .before .before .args .code)) (c .before .before .before .before .before .accept-into .ensures) (given .0 .0) (given .0 .1 .0) (given .1) in
     taken-count taken
 
 slice-aggregate-stretch-in : tie.Need-slice-aggregate-stretch-in
-slice-aggregate-stretch-in c = 
+slice-aggregate-stretch-in c =
     let given = c .before .before .m .given in
     let taken = code-taken (now (c .before .before .before .before .before .before .before .before .before .before .before .before .args .code)) (c .before .before .before .before .before .before .accept-into .ensures) (given .0 .0) (given .0 .1 .0) (given .1) in
     sym (length-take-le _ _ (taken-count taken))
 
 array-share-prefix-numbers : tie.Need-array-share-prefix-numbers
-array-share-prefix-numbers c = 
+array-share-prefix-numbers c =
     let given = c .before .before .m .given in
     let taken = code-taken (now (c .before .before .before .before .before .before .before .before .before .before .before .before .args .code)) (c .before .before .before .before .before .before .accept-into .ensures) (given .0 .0) (given .0 .1 .0) (given .1) in
     taken-points taken
 
 slice-aggregate-stretch-in-2 : tie.Need-slice-aggregate-stretch-in-2
-slice-aggregate-stretch-in-2 c = 
+slice-aggregate-stretch-in-2 c =
     let given = c .before .before .before .m .given in
     let taken = code-taken (now (c .before .before .before .before .before .before .before .before .before .before .before .before .before .args .code)) (c .before .before .before .before .before .before .before .accept-into .ensures) (given .0 .0) (given .0 .1 .0) (given .1) in
     sym (length-take-le _ _ (taken-points taken))
 
 stretch-in-requires : tie.Need-stretch-in-requires
-stretch-in-requires c κs = 
+stretch-in-requires c κs =
     let given = c .before .before .before .m .given in
     let taken = code-taken (now (c .before .before .before .before .before .before .before .before .before .before .before .before .before .args .code)) (c .before .before .before .before .before .before .before .accept-into .ensures) (given .0 .0) (given .0 .1 .0) (given .1) in
     taken-held taken
 
 returns : tie.Need-returns
-returns c = 
+returns c =
     let given = c .before .cause .given in
     let a = c .before .before .before .before .before .before .before .before .before .before .before .args in
     code-fault (now (a .code)) (a .position) (given .0 .0) (code-refused (now (a .code)) (c .before .before .before .before .before .accept-into .ensures) (given .0 .0) (given .1))
 
 returns-2 : tie.Need-returns-2
-returns-2 c = 
+returns-2 c =
     let given = c .before .before .before .before .m .given in
     let taken = code-taken (now (c .before .before .before .before .before .before .before .before .before .before .before .before .before .before .args .code)) (c .before .before .before .before .before .before .before .before .accept-into .ensures) (given .0 .0) (given .0 .1 .0) (given .1) in
     let a = c .before .before .before .before .before .before .before .before .before .before .before .before .before .before .args in
