@@ -1,8 +1,8 @@
 -- The numbers of a census: a table of at most 200 points has at most 19 rows, and height and longest cycle are at most its number of points.
-use mathlib.Core.Path.{_≡_, refl, sym, _∙_, ap, subst}
+use mathlib.Core.Path.{_≡_, refl, sym, _∙_}
 use mathlib.Core.Bool.{true}
 use mathlib.Core.List.{List, [], _∷_, map}
-use Prim.Native.Nat.{ℕ, zero, suc, _≤_, _<_}
+use Prim.Native.Nat.{ℕ, zero, suc, _≤_}
 use native.Mathlib.Omega.{arith}
 use lib.Dec.{leb, ltb}
 use lib.IntN.{ℤ}
@@ -15,8 +15,8 @@ use Rattle.lists.proofs.Tests.{by-test}
 use Rattle.patterns.specs.declared.Refusal.the-variants.{Count, Image, Room}
 use Rattle.patterns.specs.Table.{image, isTable, onCycle}
 use Rattle.patterns.specs.Census.{greatest, Row, stepsToCycle, height, longestCycle, cycleLengths}
-use Rattle.patterns.specs.Reading.{Result, done, fault}
-use Rattle.patterns.specs.Entry.{length-is, checkedTable, answer, Counted, table-refused, counted, CensusAnswer, census-is, census-refused, censusAnswered}
+use Rattle.patterns.specs.Reading.{Result, done}
+use Rattle.patterns.specs.Entry.{length-is, checkedTable, answer, Counted, table-refused, counted, CensusAnswer, censusAnswered}
 use Rattle.maps.proofs.Isomorphisms.{table-below}
 use Rattle.maps.proofs.CensusTheory.{lengths-add-up, cycle-points-bound, census-fits}
 use Rattle.census.specs.Rows.{rowsOf}

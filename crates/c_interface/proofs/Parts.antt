@@ -7,12 +7,11 @@ use lib.IntN.{ℤ, pos}
 use lib.ListN.{length, getD}
 use mir.Syntax.{w64}
 use mir.Val.{SFits, toZ, ofZ}
-use Rattle.patterns.specs.declared.Refusal.{Refusal}
 use Rattle.patterns.specs.Reading.{Result, done, fault}
-use Rattle.patterns.specs.Entry.{Answer, length-is, refused, numberOf, answer, componentOf}
+use Rattle.patterns.specs.Entry.{Answer, length-is, refused, answer, componentOf}
 use Rattle.systems.proofs.Bounds.{below-at}
 use Rattle.component_reader.specs.declared.Stretch.{Stretch}
-use Rattle.component_reader.specs.declared.Stretch.the-variants.{Part, Refused}
+use Rattle.component_reader.specs.declared.Stretch.the-variants.{Part}
 use Rattle.component_reader.specs.Stretch.{PartAnswer, part-is, part-refused, partAnswer, partAnswered}
 use Rattle.component_reader.proofs.Showing.{stands, stands-within}
 use Rattle.c_interface.specs.Numbers.{signedOf}
