@@ -1,0 +1,181 @@
+// The entries of the engine for callers in C: numbers and byte slices in, one signed number out. Of each slice C hands over a pointer and a count.
+use component_reader::Stretch;
+use component_reader::stretch_of;
+use engine::Census;
+use engine::Isomorphism;
+use engine::Successor;
+use patterns::Refusal;
+use written::Reply;
+ghost use denote.Ref.{now};
+ghost use mathlib.Core.Path.{_≡_};
+ghost use lib.IntN.{pos};
+ghost use lib.ListN.{length};
+ghost use mir.Syntax.{w64};
+ghost use mir.Val.{SFits};
+ghost use Rattle.patterns.specs.Entry.{Answer.refused, numberOf, acceptOf, firstOf, successorOf, codeOfMap, mapOfCode};
+ghost use Rattle.written.specs.Putting.{answerOf};
+ghost use Rattle.engine.specs.Answers.{censusAnswer};
+ghost use Rattle.c_interface.specs.Numbers.{signedOf, heightIn, longestIn, Reported, IsomorphismReported, CensusReported, heightOf, longestOf};
+ghost use Rattle.c_interface.specs.Numbers.{componentStart, componentEnd};
+
+// The number of a refusal.
+fn refusal(cause: Refusal) -> i64
+    ensures { λ r. ⌜ r ≡ signedOf (refused (numberOf cause)) ⌝ }
+{
+    match cause {
+        Refusal::Count => -1,
+        Refusal::Image => -2,
+        Refusal::Truncated => -3,
+        Refusal::NumberForm => -4,
+        Refusal::Sizes => -5,
+        Refusal::NotCanonical => -6,
+        Refusal::Trailing => -7,
+        Refusal::Room => -8,
+        Refusal::Position => -9,
+    }
+}
+
+// The number of what was counted.
+fn counted(n: usize) -> i64
+    requires { ⌜ SFits w64 (pos n) ⌝ }
+    ensures { λ r. ⌜ r ≡ pos n ⌝ }
+{
+    n as i64
+}
+
+// The number of a length or a refusal.
+fn number(reply: Reply) -> i64
+    requires { ⌜ SFits w64 (signedOf (answerOf reply)) ⌝ }
+    ensures { λ r. ⌜ r ≡ signedOf (answerOf reply) ⌝ }
+{
+    match reply {
+        Reply::Length(n) => counted(n),
+        Reply::Refused(cause) => refusal(cause),
+    }
+}
+
+fn no_rows() -> [u8; 19]
+    ensures { λ r. ⌜ length r ≡ 19 ⌝ }
+{
+    [0u8; 19]
+}
+
+// The census of a map, its rows thrown away: 19 places hold every census.
+fn measure(table: &[u8]) -> Census
+    ensures { λ r. ⌜ (heightIn (censusAnswer r) ≡ heightOf (now (table .entry))) × (longestIn (censusAnswer r) ≡ longestOf (now (table .entry))) ⌝ }
+{
+    let mut lengths = no_rows();
+    let mut counts = no_rows();
+    engine::census(table, &mut lengths, &mut counts)
+}
+
+// n, or the refusal of a code.
+#[no_mangle]
+pub extern "C" fn lethmuok_accept(code: &[u8]) -> i64
+    ensures { λ r. ⌜ r ≡ signedOf (acceptOf (now (code .entry))) ⌝ }
+{
+    number(engine::accept(code))
+}
+
+// Writes the first code of n points.
+#[no_mangle]
+pub extern "C" fn lethmuok_first(n: usize, out: &mut [u8]) -> i64
+    ensures { λ r. ⌜ Reported (firstOf n) (now (out .entry)) r (now (out .exit)) ⌝ }
+{
+    number(engine::first(n, out))
+}
+
+// Writes the code that follows `code` in the list.
+#[no_mangle]
+pub extern "C" fn lethmuok_successor(code: &[u8], out: &mut [u8]) -> i64
+    ensures { λ r. ⌜ Reported (successorOf (now (code .entry))) (now (out .entry)) r (now (out .exit)) ⌝ }
+{
+    match engine::successor(code, out) {
+        Successor::Length(n) => counted(n),
+        Successor::Last => -10,
+        Successor::Refused(cause) => refusal(cause),
+    }
+}
+
+// Writes the code of the map `table`.
+#[no_mangle]
+pub extern "C" fn lethmuok_code_of_map(table: &[u8], out: &mut [u8]) -> i64
+    ensures { λ r. ⌜ Reported (codeOfMap (now (table .entry))) (now (out .entry)) r (now (out .exit)) ⌝ }
+{
+    number(engine::code_of_map(table, out))
+}
+
+// Writes the map of a code.
+#[no_mangle]
+pub extern "C" fn lethmuok_map_of_code(code: &[u8], out: &mut [u8]) -> i64
+    ensures { λ r. ⌜ Reported (mapOfCode (now (code .entry))) (now (out .entry)) r (now (out .exit)) ⌝ }
+{
+    number(engine::map_of_code(code, out))
+}
+
+// Writes an isomorphism from the map `f` to the map `g`.
+#[no_mangle]
+pub extern "C" fn lethmuok_isomorphism(f: &[u8], g: &[u8], out: &mut [u8]) -> i64
+    ensures { λ r. ⌜ IsomorphismReported (now (f .entry)) (now (g .entry)) (now (out .entry)) r (now (out .exit)) ⌝ }
+{
+    match engine::isomorphism(f, g, out) {
+        Isomorphism::Points(n) => counted(n),
+        Isomorphism::Nothing => -11,
+        Isomorphism::Refused(cause) => refusal(cause),
+    }
+}
+
+// Writes the census of the map `table`, cycle lengths and numbers of cycles beside each other.
+#[no_mangle]
+pub extern "C" fn lethmuok_census(table: &[u8], lengths: &mut [u8], counts: &mut [u8]) -> i64
+    ensures { λ r. ⌜ CensusReported (now (table .entry)) (now (lengths .entry)) (now (counts .entry)) r (now (lengths .exit)) (now (counts .exit)) ⌝ }
+{
+    match engine::census(table, lengths, counts) {
+        Census::Counted(n, _, _) => counted(n),
+        Census::Refused(cause) => refusal(cause),
+    }
+}
+
+// The greatest distance of a point of the map `table` from its cycle.
+#[no_mangle]
+pub extern "C" fn lethmuok_height(table: &[u8]) -> i64
+    ensures { λ r. ⌜ r ≡ signedOf (heightOf (now (table .entry))) ⌝ }
+{
+    match measure(table) {
+        Census::Counted(_, height, _) => counted(height),
+        Census::Refused(cause) => refusal(cause),
+    }
+}
+
+// The length of the longest cycle of the map `table`.
+#[no_mangle]
+pub extern "C" fn lethmuok_longest_cycle(table: &[u8]) -> i64
+    ensures { λ r. ⌜ r ≡ signedOf (longestOf (now (table .entry))) ⌝ }
+{
+    match measure(table) {
+        Census::Counted(_, _, longest) => counted(longest),
+        Census::Refused(cause) => refusal(cause),
+    }
+}
+
+// Where the bytes of the component at `position`, counted from 0, begin in `code`.
+#[no_mangle]
+pub extern "C" fn lethmuok_component_start(code: &[u8], position: usize) -> i64
+    ensures { λ r. ⌜ r ≡ signedOf (componentStart (now (code .entry)) position) ⌝ }
+{
+    match stretch_of(code, position) {
+        Stretch::Part(start, _) => counted(start),
+        Stretch::Refused(cause) => refusal(cause),
+    }
+}
+
+// Where they end.
+#[no_mangle]
+pub extern "C" fn lethmuok_component_end(code: &[u8], position: usize) -> i64
+    ensures { λ r. ⌜ r ≡ signedOf (componentEnd (now (code .entry)) position) ⌝ }
+{
+    match stretch_of(code, position) {
+        Stretch::Part(_, end) => counted(end),
+        Stretch::Refused(cause) => refusal(cause),
+    }
+}
