@@ -1,0 +1,3 @@
+-- What the proofs of the entries for C callers share.
+pub mod Fitting
+pub mod Measures

@@ -1,0 +1,43 @@
+use mathlib.Core.Path.{sym, ap, _∙_, subst}
+use lib.IntN.{ℤ}
+use mir.Syntax.{w64}
+use mir.Val.{SFits}
+use Rattle.engine.specs.declared.reply.Census.{Census}
+use Rattle.engine.specs.Answers.{censusAnswer}
+use Rattle.c_interface.specs.Numbers.{signedOf, heightIn}
+use Rattle.c_interface.proofs.Fitting.{read-back}
+use borrow.Author.Needs.{needs}
+use Rattle.c_interface.proofs.height_number.Statement.{statement}
+use Rattle.c_interface.proofs.height_number.Tie as tie
+
+abbrev signed : Census → ℤ
+signed r = signedOf (heightIn (censusAnswer r))
+
+enum-known-reply : tie.Need-enum-known-reply
+enum-known-reply c = search needs
+
+counted-requires : tie.Need-counted-requires
+counted-requires c κs = subst (λ r. SFits w64 (signed r)) (c .before .reply .given .1) (c .before .before .before .pre)
+
+enum-known-reply-2 : tie.Need-enum-known-reply-2
+enum-known-reply-2 c = search needs
+
+refusal-requires : tie.Need-refusal-requires
+refusal-requires c κs = search needs
+
+returns : tie.Need-returns
+returns c = read-back (c .counted .ensures ∙ sym (ap signed (c .before .before .reply .given .1))) (c .before .before .before .before .pre)
+
+returns-2 : tie.Need-returns-2
+returns-2 c = read-back (c .refusal .ensures ∙ sym (ap signed (c .before .before .reply2 .given .1))) (c .before .before .before .before .pre)
+
+pub height-number-spec : {M : Type 1} → statement M
+height-number-spec =
+    tie.close
+    (tie.spec
+    enum-known-reply
+    counted-requires
+    enum-known-reply-2
+    refusal-requires
+    returns
+    returns-2)

@@ -1,0 +1,19 @@
+use mathlib.Core.Path.{sym, ap, _∙_, subst}
+use denote.Ref.{now}
+use Rattle.c_interface.specs.Numbers.{signedOf}
+use Rattle.c_interface.proofs.Fitting.{Fits, read-back, accept-fits}
+use borrow.Author.Needs.{needs}
+use Rattle.c_interface.proofs.lethmuok_accept.Statement.{statement}
+use Rattle.c_interface.proofs.lethmuok_accept.Tie as tie
+
+accept-requires : tie.Need-accept-requires
+accept-requires c κs = search needs
+
+number-requires : tie.Need-number-requires
+number-requires c κs = subst Fits (sym (c .accept .ensures)) (accept-fits (now (c .before .before .args .code)))
+
+returns : tie.Need-returns
+returns c = read-back (c .number .ensures ∙ ap signedOf (c .before .accept .ensures)) (accept-fits (now (c .before .before .before .args .code)))
+
+pub lethmuok-accept-spec : {M : Type 1} → statement M
+lethmuok-accept-spec = tie.close (tie.spec accept-requires number-requires returns)

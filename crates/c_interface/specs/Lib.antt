@@ -1,0 +1,2 @@
+-- The replies of the entries as C callers see them.
+pub mod Numbers

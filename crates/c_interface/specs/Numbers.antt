@@ -1,0 +1,55 @@
+-- The replies of document 01 as one signed number, for callers in C: what is counted is itself, a refusal is minus its number, "last" is −10 and
+-- "none" is −11.
+use mathlib.Core.Path.{_≡_}
+use mathlib.Core.List.{List}
+use Prim.Native.Nat.{ℕ}
+use lib.IntN.{ℤ, pos, negℤ}
+use lib.ListN.{length}
+use Rattle.patterns.specs.Table.{image}
+use Rattle.patterns.specs.Census.{height, longestCycle}
+use Rattle.patterns.specs.Entry.{Answer, length-is, last, none-exists, refused, Outcome, answer, answered, filled, checkedTable, IsomorphismReplied, CensusAnswer, census-is, census-refused}
+use Rattle.engine.specs.Rows.{RowsReplied}
+
+abbrev pub signedOf : Answer → ℤ
+signedOf (length-is n) = pos n
+signedOf last = negℤ (pos 10)
+signedOf none-exists = negℤ (pos 11)
+signedOf (refused c) = negℤ (pos c)
+
+-- an entry that found o replied with the number r and left the output so
+pub record Reported (o : Outcome ℕ) (before : List ℕ) (r : ℤ) (after : List ℕ) : Type 0 where
+  pub number : r ≡ signedOf (answered o before)
+  pub output : after ≡ filled o before
+
+-- the isomorphism entry replied with the number r
+pub record IsomorphismReported (f g before : List ℕ) (r : ℤ) (after : List ℕ) : Type 0 where
+  pub reply : Answer
+  pub number : r ≡ signedOf reply
+  pub replied : IsomorphismReplied f g before reply after
+
+-- the three numbers of a census
+abbrev pub entriesOf : CensusAnswer → Answer
+entriesOf (census-is entries height longest) = length-is entries
+entriesOf (census-refused c) = refused c
+
+abbrev pub heightIn : CensusAnswer → Answer
+heightIn (census-is entries height longest) = length-is height
+heightIn (census-refused c) = refused c
+
+abbrev pub longestIn : CensusAnswer → Answer
+longestIn (census-is entries height longest) = length-is longest
+longestIn (census-refused c) = refused c
+
+-- the census entry replied with the number r
+pub record CensusReported (f lengths counts : List ℕ) (r : ℤ) (lengths′ counts′ : List ℕ) : Type 0 where
+  pub reply : CensusAnswer
+  pub number : r ≡ signedOf (entriesOf reply)
+  pub replied : RowsReplied f lengths counts reply lengths′ counts′
+
+-- the greatest distance of a point from its cycle, or the refusal of the table
+abbrev pub heightOf : List ℕ → Answer
+heightOf f = answer (checkedTable f) (λ f. length-is (height (length f) (image f)))
+
+-- the longest cycle, or the refusal of the table
+abbrev pub longestOf : List ℕ → Answer
+longestOf f = answer (checkedTable f) (λ f. length-is (longestCycle (length f) (image f)))
