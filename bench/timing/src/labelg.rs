@@ -1,19 +1,22 @@
 //! nauty's labelg: a canonical labelling of each map as a digraph, for which the code of a map stands here.
 
+use crate::clock::children_seconds;
 use crate::work::code_of_map;
 use crate::{best, digits};
 use sides::code_of;
 use sides::maps::{shuffled, Kind, KINDS};
 use sides::random::Random;
 use std::collections::HashMap;
-use std::io::Write;
 use std::path::{Path, PathBuf};
 use std::process::Command;
-use std::time::Instant;
 
 /// A run that takes longer is ended and not counted.
-const LIMIT_SECONDS: &str = "20";
+const LIMIT_SECONDS: &str = "10";
 const ROUNDS: usize = 3;
+
+/// nauty's guide advises the invariant "adjacencies" (13) for digraphs. Without it, or at the first level alone, 100 random maps of 50 points take more than 5
+/// seconds. The dense and the sparse form are both tried.
+const OPTIONS: [&[&str]; 2] = [&["-q", "-i13", "-I0:1000"], &["-q", "-i13", "-I0:1000", "-S"]];
 
 /// The program, under the name that the distribution gives it.
 fn program() -> Option<&'static str> {
@@ -36,21 +39,24 @@ fn digraph6(table: &[u8]) -> Vec<u8> {
     line
 }
 
-/// The canonical forms of the maps of a file and the seconds taken, or nothing if the limit was reached.
-fn labelled(program: &str, file: &Path) -> Option<(Vec<String>, f64)> {
-    let start = Instant::now();
-    let run = Command::new("timeout").args([LIMIT_SECONDS, program, "-q"]).arg(file).output().expect("timeout runs");
-    let seconds = start.elapsed().as_secs_f64();
+/// The seconds taken and the canonical forms of the maps of a file, or nothing if the limit was reached.
+fn labelled(program: &str, options: &[&str], file: &Path) -> Option<(f64, Vec<String>)> {
+    let start = children_seconds();
+    let run = Command::new("timeout").args([LIMIT_SECONDS, program]).args(options).arg(file).output().expect("timeout runs");
+    let seconds = children_seconds() - start;
     let forms = || String::from_utf8_lossy(&run.stdout).lines().map(String::from).collect();
-    run.status.success().then(|| (forms(), seconds))
+    run.status.success().then(|| (seconds, forms()))
 }
 
-/// The best of several runs.
-fn best_run(program: &str, tables: &[Vec<u8>], file: &Path) -> Option<(Vec<String>, f64)> {
-    let lines: Vec<u8> = tables.iter().flat_map(|table| digraph6(table)).collect();
-    std::fs::File::create(file).and_then(|mut file| file.write_all(&lines)).expect("a file for labelg");
-    let runs: Option<Vec<_>> = (0..ROUNDS).map(|_| labelled(program, file)).collect();
-    runs?.into_iter().min_by(|(_, s), (_, t)| s.total_cmp(t))
+/// The best of several runs; the forms are compared with the codes.
+fn best_run(program: &str, options: &[&str], tables: &[Vec<u8>], file: &Path) -> Option<f64> {
+    let mut best = f64::INFINITY;
+    for _ in 0..ROUNDS {
+        let (seconds, forms) = labelled(program, options, file)?;
+        assert!(consistent(tables, &forms), "labelg and the codes differ");
+        best = seconds.min(best);
+    }
+    Some(best)
 }
 
 /// Equal forms exactly where the codes are equal.
@@ -73,19 +79,20 @@ fn tables((_, kind): Kind, n: usize, pairs: usize) -> Vec<Vec<u8>> {
 
 fn row(program: &str, kind: Kind, n: usize, pairs: usize, file: &Path) {
     let tables = tables(kind, n, pairs);
-    let calls = tables.len();
+    let lines: Vec<u8> = tables.iter().flat_map(|table| digraph6(table)).collect();
+    std::fs::write(file, lines).expect("a file for labelg");
     let work = code_of_map(kind.0, tables.clone());
     assert!((work.agree)(), "the two sides differ: {}", kind.0);
-    let [engine, plain] = best(&work).map(digits);
-    let times = match best_run(program, &tables, file) {
+    let [engine, plain] = best(&work);
+    let runs = OPTIONS.iter().filter_map(|options| best_run(program, options, &tables, file));
+    let labelg = match runs.min_by(f64::total_cmp) {
         None => "over the limit | |".into(),
-        Some((forms, seconds)) => {
-            assert!(consistent(&tables, &forms), "labelg and the codes differ: {}, {n} points", kind.0);
-            let each = seconds * 1e6 / calls as f64;
-            format!("{} | {:.3} |", digits(each), best(&work)[0] / each)
+        Some(seconds) => {
+            let each = seconds * 1e6 / work.calls as f64;
+            format!("{} | {:.4} |", digits(each), engine / each)
         }
     };
-    println!("| {} | {n} | {calls} | {engine} | {plain} | {times}", kind.0);
+    println!("| {} | {n} | {} | {} | {} | {labelg}", kind.0, work.calls, digits(engine), digits(plain));
 }
 
 pub fn table() {
@@ -94,15 +101,16 @@ pub fn table() {
         println!("labelg is not installed (package nauty), so it was not run.");
         return;
     };
-    println!("A labelg run reads a file of maps, each with a shuffled copy, and writes the canonical forms; it is one process, and its start is counted. A run of more");
-    println!("than {LIMIT_SECONDS} seconds is ended. Equal forms stood exactly where the codes are equal.\n");
+    println!("A labelg run reads a file of maps, each with a shuffled copy, and writes the canonical forms; it is one process, and its start is counted. It has the");
+    println!("invariant that nauty's guide advises for digraphs, and the better of the dense and the sparse form counts. A run of more than {LIMIT_SECONDS} seconds is");
+    println!("ended. Equal forms stood exactly where the codes are equal.\n");
     println!("| maps | points | calls | engine, µs a call | plain, µs a call | labelg, µs a map | engine / labelg |");
     println!("|---|---:|---:|---:|---:|---:|---:|");
     let file = PathBuf::from(std::env::args().nth(1).expect("a file for labelg"));
-    for n in [10, 20, 50, 100, 200] {
-        row(program, KINDS[0], n, 500, &file);
+    for (n, pairs) in [(10, 2000), (20, 1000), (50, 500), (100, 200), (200, 100)] {
+        row(program, KINDS[0], n, pairs, &file);
     }
     for kind in &KINDS[1..] {
-        row(program, *kind, 200, 25, &file);
+        row(program, *kind, 200, 10, &file);
     }
 }

@@ -2,31 +2,28 @@
 //!
 //! Every time is the best of several rounds. What is timed is also compared; a difference ends the run.
 
+mod clock;
 mod labelg;
 mod work;
 
-use sides::{Side, ENGINE, PLAIN};
-use std::time::{Duration, Instant};
+use clock::own_seconds;
+use sides::{ENGINE, PLAIN};
 use work::Work;
 
 /// Each work is repeated so often, the two sides taking turns.
-const ROUNDS: usize = 7;
-
-fn timed(work: &Work, side: &Side) -> Duration {
-    let start = Instant::now();
-    std::hint::black_box((work.run)(side));
-    start.elapsed()
-}
+const ROUNDS: usize = 15;
 
 /// The best time of each side for one call of the work, in microseconds.
 pub fn best(work: &Work) -> [f64; 2] {
-    let mut best = [Duration::MAX; 2];
+    let mut best = [f64::INFINITY; 2];
     for _ in 0..ROUNDS {
         for (best, side) in best.iter_mut().zip([&ENGINE, &PLAIN]) {
-            *best = timed(work, side).min(*best);
+            let start = own_seconds();
+            std::hint::black_box((work.run)(side));
+            *best = best.min(own_seconds() - start);
         }
     }
-    best.map(|time| time.as_secs_f64() * 1e6 / work.calls as f64)
+    best.map(|seconds| seconds * 1e6 / work.calls as f64)
 }
 
 /// A time with three digits that count.

@@ -77,7 +77,7 @@ fn tables((_, kind): Kind, number: usize) -> Vec<Vec<u8>> {
     (0..number).map(|_| kind(POINTS, random)).collect()
 }
 
-/// A thousand steps from each of the extreme codes, and ten times a hundred from codes of maps.
+/// A thousand steps from each of the extreme codes, and from the code of each kind of map; where chance has a part in the map, a hundred from each of ten.
 pub fn successors() -> Vec<Work> {
     let extreme: [(&str, Vec<u8>); 6] = [
         ("200 points along one cycle", component(&[(200, &[1])])),
@@ -92,8 +92,10 @@ pub fn successors() -> Vec<Work> {
     ];
     let mut works: Vec<Work> = extreme.into_iter().map(|(name, code)| walks(name.into(), vec![code], 1000)).collect();
     for kind in KINDS {
-        let starts = tables(kind, 10).iter().map(|table| code_of(table)).collect();
-        works.push(walks(format!("from maps: {}", kind.0), starts, 100));
+        let mut starts: Vec<Vec<u8>> = tables(kind, 10).iter().map(|table| code_of(table)).collect();
+        starts.dedup();
+        let steps = 1000 / starts.len();
+        works.push(walks(format!("from the map: {}", kind.0), starts, steps));
     }
     works
 }
