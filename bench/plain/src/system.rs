@@ -17,7 +17,11 @@ fn is_canonical(system: &[Component]) -> bool {
 /// Reads a written code and checks it.
 pub fn accepted(code: &[u8]) -> Result<Vec<Component>, Cause> {
     let system = read(&cut(code)?)?;
-    if is_canonical(&system) { Ok(system) } else { Err(Cause::NotCanonical) }
+    if is_canonical(&system) {
+        Ok(system)
+    } else {
+        Err(Cause::NotCanonical)
+    }
 }
 
 /// The next nondecreasing list with the same sum: the last two sizes are replaced by as many equal ones as fit, and the rest.

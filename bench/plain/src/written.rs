@@ -35,7 +35,11 @@ impl Reader<'_> {
     /// A number from 1 to the points left.
     fn size(&mut self, left: usize) -> Result<usize, Cause> {
         let size = self.number()?;
-        if size == 0 || size > left { Err(Cause::Sizes) } else { Ok(size) }
+        if size == 0 || size > left {
+            Err(Cause::Sizes)
+        } else {
+            Ok(size)
+        }
     }
 
     /// A tree and its branches are appended to the component.

@@ -101,7 +101,9 @@ pub fn table() {
         println!("labelg is not installed (package nauty), so it was not run.");
         return;
     };
-    println!("A labelg run reads a file of maps, each with a shuffled copy, and writes the canonical forms; it is one process, and its start is counted. It has the");
+    println!(
+        "A labelg run reads a file of maps, each with a shuffled copy, and writes the canonical forms; it is one process, and its start is counted. It has the"
+    );
     println!("invariant that nauty's guide advises for digraphs, and the better of the dense and the sparse form counts. A run of more than {LIMIT_SECONDS} seconds is");
     println!("ended. Equal forms stood exactly where the codes are equal.\n");
     println!("| maps | points | calls | engine, µs a call | plain, µs a call | labelg, µs a map | engine / labelg |");

@@ -44,12 +44,7 @@ fn walks(name: String, starts: Vec<Vec<u8>>, steps: usize) -> Work {
     let same = all.clone();
     // Each walk ends with a call too, the one that is told "last", unless it is cut short.
     let calls = all(&PLAIN, false).iter().map(|&(made, _)| if made < steps { made + 1 } else { made }).sum();
-    Work {
-        name,
-        calls,
-        run: Box::new(move |side| all(side, false).len() as u64),
-        agree: Box::new(move || same(&ENGINE, true) == same(&PLAIN, true)),
-    }
+    Work { name, calls, run: Box::new(move |side| all(side, false).len() as u64), agree: Box::new(move || same(&ENGINE, true) == same(&PLAIN, true)) }
 }
 
 /// All codes of n points.

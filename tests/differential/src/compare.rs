@@ -4,19 +4,8 @@ use sides::maps::is_isomorphism;
 use sides::{Side, ENGINE, PLAIN};
 use std::fmt::Write;
 
-pub const ENTRIES: [&str; 11] = [
-    "accept",
-    "first",
-    "successor",
-    "code_of_map",
-    "map_of_code",
-    "isomorphism",
-    "census",
-    "height",
-    "longest_cycle",
-    "component_start",
-    "component_end",
-];
+pub const ENTRIES: [&str; 11] =
+    ["accept", "first", "successor", "code_of_map", "map_of_code", "isomorphism", "census", "height", "longest_cycle", "component_start", "component_end"];
 
 /// The bytes in front of a lent buffer and behind it.
 const MARGIN: usize = 16;

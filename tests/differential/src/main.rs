@@ -216,5 +216,9 @@ fn main() -> ExitCode {
     reordered_codes(comparison, random, 20_000);
     noise(comparison, random, 20_000);
     bad_tables(comparison, random, 4_000);
-    if report(comparison) { ExitCode::SUCCESS } else { ExitCode::FAILURE }
+    if report(comparison) {
+        ExitCode::SUCCESS
+    } else {
+        ExitCode::FAILURE
+    }
 }
