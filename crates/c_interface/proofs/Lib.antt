@@ -1,3 +1,5 @@
 -- What the proofs of the entries for C callers share.
 pub mod Fitting
 pub mod Measures
+pub mod Parts
+pub mod Telling

@@ -7,7 +7,7 @@ use lib.IntN.{ℤ, pos, negℤ}
 use lib.ListN.{length}
 use Rattle.patterns.specs.Table.{image}
 use Rattle.patterns.specs.Census.{height, longestCycle}
-use Rattle.patterns.specs.Entry.{Answer, length-is, last, none-exists, refused, Outcome, answer, answered, filled, checkedTable, IsomorphismReplied, CensusAnswer, census-is, census-refused}
+use Rattle.patterns.specs.Entry.{Answer, length-is, last, none-exists, refused, Outcome, answer, answered, filled, checkedTable, componentOf, IsomorphismReplied, CensusAnswer, census-is, census-refused}
 use Rattle.engine.specs.Rows.{RowsReplied}
 
 abbrev pub signedOf : Answer → ℤ
@@ -53,3 +53,10 @@ heightOf f = answer (checkedTable f) (λ f. length-is (height (length f) (image 
 -- the longest cycle, or the refusal of the table
 abbrev pub longestOf : List ℕ → Answer
 longestOf f = answer (checkedTable f) (λ f. length-is (longestCycle (length f) (image f)))
+
+-- where the bytes of the component at position i begin and end in the code b, or the refusal
+abbrev pub componentStart : List ℕ → ℕ → Answer
+componentStart b i = answer (componentOf b i) (λ ends. length-is (ends .0))
+
+abbrev pub componentEnd : List ℕ → ℕ → Answer
+componentEnd b i = answer (componentOf b i) (λ ends. length-is (ends .1))

@@ -1,4 +1,6 @@
 // The entries of the engine for callers in C: numbers and byte slices in, one signed number out. Of each slice C hands over a pointer and a count.
+use component_reader::Stretch;
+use component_reader::stretch_of;
 use engine::Census;
 use engine::Isomorphism;
 use engine::Successor;
@@ -14,6 +16,7 @@ ghost use Rattle.patterns.specs.Entry.{Answer.refused, numberOf, acceptOf, firs
 ghost use Rattle.written.specs.Putting.{answerOf};
 ghost use Rattle.engine.specs.Answers.{successorAnswer, isomorphismAnswer, censusAnswer};
 ghost use Rattle.c_interface.specs.Numbers.{signedOf, entriesOf, heightIn, longestIn, Reported, IsomorphismReported, CensusReported, heightOf, longestOf};
+ghost use Rattle.c_interface.specs.Numbers.{componentStart, componentEnd};
 
 // The number of a refusal.
 fn refusal(cause: Refusal) -> i64
@@ -193,4 +196,26 @@ pub extern "C" fn lethmuok_longest_cycle(table: &[u8]) -> i64
     ensures { λ r. ⌜ r ≡ signedOf (longestOf (now (table .entry))) ⌝ }
 {
     longest_number(measure(table))
+}
+
+// Where the bytes of the component at `position`, counted from 0, begin in `code`.
+#[no_mangle]
+pub extern "C" fn lethmuok_component_start(code: &[u8], position: usize) -> i64
+    ensures { λ r. ⌜ r ≡ signedOf (componentStart (now (code .entry)) position) ⌝ }
+{
+    match stretch_of(code, position) {
+        Stretch::Part(start, _) => counted(start),
+        Stretch::Refused(cause) => refusal(cause),
+    }
+}
+
+// Where they end.
+#[no_mangle]
+pub extern "C" fn lethmuok_component_end(code: &[u8], position: usize) -> i64
+    ensures { λ r. ⌜ r ≡ signedOf (componentEnd (now (code .entry)) position) ⌝ }
+{
+    match stretch_of(code, position) {
+        Stretch::Part(_, end) => counted(end),
+        Stretch::Refused(cause) => refusal(cause),
+    }
 }

@@ -1,0 +1,2 @@
+-- What the component reader answers and shows.
+pub mod Stretch

@@ -1,0 +1,141 @@
+// The component reader [document 01, "Refusing", last paragraph]: it shows the bytes of one component at a time, as a part of the code that it was
+// given. A reader is a code and a position. The functions over it are thin: what they answer is found by functions on a slice and a number.
+use components::count;
+use patterns::Refusal;
+use reading::Accepted;
+use reading::accept_into;
+ghost use denote.Ref.{now};
+ghost use mathlib.Core.Path.{_≡_};
+ghost use Prim.Native.Nat.{_≤_};
+ghost use lib.ListN.{length};
+ghost use Rattle.patterns.specs.System.{System};
+ghost use Rattle.patterns.specs.Written.{writeNumber, bytes as bytesOf};
+ghost use Rattle.patterns.specs.Entry.{componentOf};
+ghost use Rattle.reading.specs.Held.{Holds, HeldSystem};
+ghost use Rattle.component_reader.specs.Stretch.{partAnswer, partAnswered, componentIn, Shown};
+
+// Where the bytes of a component begin and end in a code, or the cause of a refusal.
+pub enum Stretch {
+    Part(usize, usize),
+    Refused(Refusal),
+}
+
+// Room for a number for each point.
+fn points_room() -> [u8; 200]
+    ensures { λ r. ⌜ length r ≡ 200 ⌝ }
+{
+    [0u8; 200]
+}
+
+// How many bytes a number takes.
+fn width(x: usize) -> usize
+    ensures { λ r. ⌜ r ≡ length (writeNumber x) ⌝ }
+{
+    if x < 128 {
+        return 1;
+    }
+    2
+}
+
+// How many bytes the numbers of `s` take.
+fn total_width(s: &[u8]) -> usize
+    requires { ⌜ length (now s) ≤ 200 ⌝ }
+    ensures { λ r. ⌜ r ≡ length (bytesOf (now (s .entry))) ⌝ }
+{
+    let mut sum = 0;
+    let mut i = 0;
+    while i < s.len() {
+        sum += width(s[i] as usize);
+        i += 1;
+    }
+    sum
+}
+
+// Where the component at `position` stands in the written code of the system: its bytes are the number of its trees and then their codes.
+fn stretch_in(sizes: &[u8], numbers: &[u8], position: usize) -> Stretch
+    requires { ⌜ HeldSystem (now sizes) (now numbers) ⌝ }
+    ensures { λ r. ⌜ ((S : System) → Holds S (now (sizes .entry)) (now (numbers .entry))
+        → partAnswer r ≡ partAnswered (componentIn S position)) ⌝ }
+{
+    let mut start = width(numbers.len()) + width(sizes.len());
+    let mut from = 0;
+    let mut i = 0;
+    while i < sizes.len() {
+        let to = from + sizes[i] as usize;
+        let trees = start + width(count(&numbers[from..to]));
+        let end = trees + total_width(&numbers[from..to]);
+        if i == position {
+            return Stretch::Part(start, end);
+        }
+        start = end;
+        from = to;
+        i += 1;
+    }
+    Stretch::Refused(Refusal::Position)
+}
+
+// Where the component at `position`, counted from 0, stands in `code`. The code's own faults come first.
+pub fn stretch_of(code: &[u8], position: usize) -> Stretch
+    ensures { λ r. ⌜ partAnswer r ≡ partAnswered (componentOf (now (code .entry)) position) ⌝ }
+{
+    let mut sizes = points_room();
+    let mut numbers = points_room();
+    match accept_into(code, &mut sizes, &mut numbers) {
+        Accepted::Refused(cause) => Stretch::Refused(cause),
+        Accepted::System(m, n) => stretch_in(&sizes[..m], &numbers[..n], position),
+    }
+}
+
+// The bytes of the component at `position` where they stand in `code`; where there is a refusal, none.
+pub fn part_of(code: &[u8], position: usize) -> &[u8]
+    ensures { λ r. ⌜ Shown (code .entry) (componentOf (now (code .entry)) position) r ⌝ }
+{
+    match stretch_of(code, position) {
+        Stretch::Part(start, end) => &code[start..end],
+        Stretch::Refused(_) => &code[0..0],
+    }
+}
+
+// The component reader: a code that it was given, and a position in it, counted from 0.
+pub struct ComponentReader<'a> {
+    pub code: &'a [u8],
+    pub position: usize,
+}
+
+// A reader of `code`, at the first component.
+pub fn reader_of<'a>(code: &'a [u8]) -> ComponentReader<'a>
+    ensures { λ r. ⌜ (r .code ≡ code .entry) × (r .position ≡ 0) ⌝ }
+{
+    ComponentReader { code, position: 0 }
+}
+
+// A reader of the same code, at `position`.
+pub fn moved<'a>(r: ComponentReader<'a>, position: usize) -> ComponentReader<'a>
+    ensures { λ q. ⌜ (q .code ≡ r .entry .code) × (q .position ≡ position) ⌝ }
+{
+    ComponentReader {
+        code: r.code,
+        position,
+    }
+}
+
+// Where the component that the reader is at stands in its code, or the cause of a refusal.
+pub fn reply<'a>(r: ComponentReader<'a>) -> Stretch
+    ensures { λ s. ⌜ partAnswer s ≡ partAnswered (componentOf (now (r .entry .code)) (r .entry .position)) ⌝ }
+{
+    stretch_of(r.code, r.position)
+}
+
+// The bytes of the component that the reader is at, where they stand in its code; where there is a refusal, none.
+pub fn shown<'a>(r: ComponentReader<'a>) -> &'a [u8]
+    ensures { λ s. ⌜ Shown (r .entry .code) (componentOf (now (r .entry .code)) (r .entry .position)) s ⌝ }
+{
+    part_of(r.code, r.position)
+}
+
+// What a reader of `code` shows at `position`, for callers that hold no reader.
+pub fn component<'a>(code: &'a [u8], position: usize) -> &'a [u8]
+    ensures { λ s. ⌜ Shown (code .entry) (componentOf (now (code .entry)) position) s ⌝ }
+{
+    shown(moved(reader_of(code), position))
+}

@@ -1,0 +1,136 @@
+//! The engine for Rust programs: safe functions over the static library. A buffer is a slice, and a reply an enum.
+
+/// Why an input was refused.
+#[derive(Clone, Copy, Debug, PartialEq, Eq)]
+pub enum Refusal {
+    /// a count of points, or the length of a table, is above 200
+    Count = 1,
+    /// a byte of a table is no point
+    Image = 2,
+    /// the bytes end before the code does
+    Truncated = 3,
+    /// a number of two bytes has a wrong second byte
+    NumberForm = 4,
+    /// the sizes in a code do not fit each other
+    Sizes = 5,
+    /// the sizes fit, but this is not the code of the pattern
+    NotCanonical = 6,
+    /// there are numbers after the code
+    Trailing = 7,
+    /// the output is shorter than the result
+    Room = 8,
+    /// the code has no component at that position
+    Position = 9,
+}
+
+/// What every function answers. A result fills the first places of its buffer; with another reply than a number all buffers are kept.
+#[derive(Clone, Copy, Debug, PartialEq, Eq)]
+pub enum Reply {
+    /// the length of what was written, or the number that was asked for
+    Number(usize),
+    /// no code follows in the list
+    Last,
+    /// there is no isomorphism
+    Nothing,
+    Refused(Refusal),
+}
+
+/// 1,000 bytes hold every code, 19 entries every census.
+pub const MAX_CODE: usize = 1000;
+pub const MAX_ENTRIES: usize = 19;
+
+mod c {
+    extern "C" {
+        pub fn lethmuok_accept(code: *const u8, code_len: usize) -> i64;
+        pub fn lethmuok_first(n: usize, out: *mut u8, out_len: usize) -> i64;
+        pub fn lethmuok_successor(code: *const u8, code_len: usize, out: *mut u8, out_len: usize) -> i64;
+        pub fn lethmuok_code_of_map(table: *const u8, n: usize, out: *mut u8, out_len: usize) -> i64;
+        pub fn lethmuok_map_of_code(code: *const u8, code_len: usize, out: *mut u8, out_len: usize) -> i64;
+        pub fn lethmuok_isomorphism(f: *const u8, f_len: usize, g: *const u8, g_len: usize, out: *mut u8, out_len: usize) -> i64;
+        pub fn lethmuok_census(table: *const u8, n: usize, lengths: *mut u8, lengths_len: usize, counts: *mut u8, counts_len: usize) -> i64;
+        pub fn lethmuok_height(table: *const u8, n: usize) -> i64;
+        pub fn lethmuok_longest_cycle(table: *const u8, n: usize) -> i64;
+        pub fn lethmuok_component_start(code: *const u8, code_len: usize, position: usize) -> i64;
+        pub fn lethmuok_component_end(code: *const u8, code_len: usize, position: usize) -> i64;
+    }
+}
+
+impl From<i64> for Reply {
+    fn from(number: i64) -> Reply {
+        match number {
+            -1 => Reply::Refused(Refusal::Count),
+            -2 => Reply::Refused(Refusal::Image),
+            -3 => Reply::Refused(Refusal::Truncated),
+            -4 => Reply::Refused(Refusal::NumberForm),
+            -5 => Reply::Refused(Refusal::Sizes),
+            -6 => Reply::Refused(Refusal::NotCanonical),
+            -7 => Reply::Refused(Refusal::Trailing),
+            -8 => Reply::Refused(Refusal::Room),
+            -9 => Reply::Refused(Refusal::Position),
+            -10 => Reply::Last,
+            -11 => Reply::Nothing,
+            length => Reply::Number(usize::try_from(length).expect("the library has no other answers")),
+        }
+    }
+}
+
+// Every call below is sound: the pointer and the count of a slice go together, a slice's pointer is not null, and a `&mut` overlaps nothing.
+
+/// Whether these bytes are a code: its number of points.
+pub fn accept(code: &[u8]) -> Reply {
+    unsafe { c::lethmuok_accept(code.as_ptr(), code.len()) }.into()
+}
+
+/// Writes the first code in the list of n points.
+pub fn first(n: usize, out: &mut [u8]) -> Reply {
+    unsafe { c::lethmuok_first(n, out.as_mut_ptr(), out.len()) }.into()
+}
+
+/// Writes the code that follows in the list, or says `Last`.
+pub fn successor(code: &[u8], out: &mut [u8]) -> Reply {
+    unsafe { c::lethmuok_successor(code.as_ptr(), code.len(), out.as_mut_ptr(), out.len()) }.into()
+}
+
+/// Writes the code of a map.
+pub fn code_of_map(table: &[u8], out: &mut [u8]) -> Reply {
+    unsafe { c::lethmuok_code_of_map(table.as_ptr(), table.len(), out.as_mut_ptr(), out.len()) }.into()
+}
+
+/// Writes a map that has this code: its number of points.
+pub fn map_of_code(code: &[u8], out: &mut [u8]) -> Reply {
+    unsafe { c::lethmuok_map_of_code(code.as_ptr(), code.len(), out.as_mut_ptr(), out.len()) }.into()
+}
+
+/// Writes an isomorphism from the map f to the map g, or says `Nothing`.
+pub fn isomorphism(f: &[u8], g: &[u8], out: &mut [u8]) -> Reply {
+    unsafe { c::lethmuok_isomorphism(f.as_ptr(), f.len(), g.as_ptr(), g.len(), out.as_mut_ptr(), out.len()) }.into()
+}
+
+/// Writes each cycle length that occurs into `lengths`, and the number of such cycles beside it into `counts`: how many lengths occur.
+pub fn census(table: &[u8], lengths: &mut [u8], counts: &mut [u8]) -> Reply {
+    unsafe {
+        c::lethmuok_census(table.as_ptr(), table.len(), lengths.as_mut_ptr(), lengths.len(), counts.as_mut_ptr(), counts.len())
+    }
+    .into()
+}
+
+/// The greatest distance of a point of a map from its cycle.
+pub fn height(table: &[u8]) -> Reply {
+    unsafe { c::lethmuok_height(table.as_ptr(), table.len()) }.into()
+}
+
+/// The length of the longest cycle of a map.
+pub fn longest_cycle(table: &[u8]) -> Reply {
+    unsafe { c::lethmuok_longest_cycle(table.as_ptr(), table.len()) }.into()
+}
+
+/// The bytes of the component at a position, counted from 0, as a part of the code.
+pub fn component(code: &[u8], position: usize) -> Result<&[u8], Refusal> {
+    let start = unsafe { c::lethmuok_component_start(code.as_ptr(), code.len(), position) }.into();
+    let end = unsafe { c::lethmuok_component_end(code.as_ptr(), code.len(), position) }.into();
+    match (start, end) {
+        (Reply::Number(start), Reply::Number(end)) => Ok(&code[start..end]),
+        (Reply::Refused(cause), _) => Err(cause),
+        _ => unreachable!("the library has no other answers"),
+    }
+}

@@ -1,0 +1,76 @@
+/*
+ * Lethmuok: codes of mapping patterns, for callers in C and C++.
+ *
+ * A map of n points, n at most 200, is a table of n bytes: byte i is the image of point i, points counted from 0. A code is the written code of a
+ * pattern; 1,000 bytes hold every code.
+ *
+ * Every function answers one number. 0 or more is what its comment says; less than 0 is one of the constants below. A result fills the first places of
+ * its buffer, and every other byte of every buffer is kept; with a negative answer all of them are.
+ *
+ * Each buffer is a pointer and a count of bytes. No pointer may be null, not even where the count is 0, and an output may overlap no other buffer of
+ * the same call. Nothing else is asked of a caller. No function keeps a pointer or allocates memory, and all may run at the same time.
+ */
+#ifndef LETHMUOK_H
+#define LETHMUOK_H
+
+#include <stddef.h>
+#include <stdint.h>
+
+#ifdef __cplusplus
+extern "C" {
+#endif
+
+/* The negative answers: minus the number of a refusal's cause, or one of two replies that are no refusals. */
+enum {
+    LETHMUOK_COUNT = -1,         /* a count of points, or the length of a table, is above 200 */
+    LETHMUOK_IMAGE = -2,         /* a byte of a table is no point */
+    LETHMUOK_TRUNCATED = -3,     /* the bytes end before the code does */
+    LETHMUOK_NUMBER_FORM = -4,   /* a number of two bytes has a wrong second byte */
+    LETHMUOK_SIZES = -5,         /* the sizes in a code do not fit each other */
+    LETHMUOK_NOT_CANONICAL = -6, /* the sizes fit, but this is not the code of the pattern */
+    LETHMUOK_TRAILING = -7,      /* there are numbers after the code */
+    LETHMUOK_ROOM = -8,          /* the output is shorter than the result */
+    LETHMUOK_POSITION = -9,      /* the code has no component at that position */
+    LETHMUOK_LAST = -10,         /* no code follows in the list */
+    LETHMUOK_NONE = -11          /* there is no isomorphism */
+};
+
+/* What always suffices: points of a map, bytes of a code, entries of a census. */
+enum { LETHMUOK_MAX_POINTS = 200, LETHMUOK_MAX_CODE = 1000, LETHMUOK_MAX_ENTRIES = 19 };
+
+/* Whether these bytes are a code; answers its number of points. */
+int64_t lethmuok_accept(const uint8_t *code, size_t code_len);
+
+/* Writes the first code in the list of n points; answers its length. */
+int64_t lethmuok_first(size_t n, uint8_t *out, size_t out_len);
+
+/* Writes the code that follows in the list; answers its length, or LETHMUOK_LAST. */
+int64_t lethmuok_successor(const uint8_t *code, size_t code_len, uint8_t *out, size_t out_len);
+
+/* Writes the code of a map; answers its length. */
+int64_t lethmuok_code_of_map(const uint8_t *table, size_t n, uint8_t *out, size_t out_len);
+
+/* Writes the table of a map that has this code; answers its number of points. */
+int64_t lethmuok_map_of_code(const uint8_t *code, size_t code_len, uint8_t *out, size_t out_len);
+
+/* Writes a table r with r(f(x)) = g(r(x)) for every point x, in which every point stands once; answers the number of points, or LETHMUOK_NONE. */
+int64_t lethmuok_isomorphism(const uint8_t *f, size_t f_len, const uint8_t *g, size_t g_len, uint8_t *out, size_t out_len);
+
+/* Writes each cycle length that occurs into `lengths`, once, and the number of such cycles beside it into `counts`; answers how many lengths occur. */
+int64_t lethmuok_census(const uint8_t *table, size_t n, uint8_t *lengths, size_t lengths_len, uint8_t *counts, size_t counts_len);
+
+/* The greatest distance of a point of a map from its cycle. */
+int64_t lethmuok_height(const uint8_t *table, size_t n);
+
+/* The length of the longest cycle of a map. */
+int64_t lethmuok_longest_cycle(const uint8_t *table, size_t n);
+
+/* Where the bytes of the component at a position, counted from 0, begin in a code; and where they end, which is the place after the last of them. */
+int64_t lethmuok_component_start(const uint8_t *code, size_t code_len, size_t position);
+int64_t lethmuok_component_end(const uint8_t *code, size_t code_len, size_t position);
+
+#ifdef __cplusplus
+}
+#endif
+
+#endif
