@@ -15,9 +15,8 @@ pub struct Side {
     pub census: fn(&[u8], &mut [u8], &mut [u8]) -> i64,
     pub height: fn(&[u8]) -> i64,
     pub longest_cycle: fn(&[u8]) -> i64,
-    /// Where the part of the component at a position starts and ends; the library may be one without component reader.
-    pub component_start: Option<fn(&[u8], usize) -> i64>,
-    pub component_end: Option<fn(&[u8], usize) -> i64>,
+    pub component_start: fn(&[u8], usize) -> i64,
+    pub component_end: fn(&[u8], usize) -> i64,
 }
 
 pub use plain::{LAST, NONE};
@@ -33,8 +32,8 @@ pub const PLAIN: Side = Side {
     census: plain::census,
     height: plain::height,
     longest_cycle: plain::longest_cycle,
-    component_start: Some(plain::component_start),
-    component_end: Some(plain::component_end),
+    component_start: plain::component_start,
+    component_end: plain::component_end,
 };
 
 /// The C prototypes of the static library: a slice is a pointer, never null, and a count.
@@ -50,9 +49,7 @@ mod c {
         pub fn lethmuok_census(table: *const u8, n: usize, lengths: *mut u8, room: usize, counts: *mut u8, other: usize) -> i64;
         pub fn lethmuok_height(table: *const u8, n: usize) -> i64;
         pub fn lethmuok_longest_cycle(table: *const u8, n: usize) -> i64;
-        #[cfg(component_reader)]
         pub fn lethmuok_component_start(code: *const u8, len: usize, position: usize) -> i64;
-        #[cfg(component_reader)]
         pub fn lethmuok_component_end(code: *const u8, len: usize, position: usize) -> i64;
     }
 }
@@ -71,14 +68,8 @@ pub const ENGINE: Side = Side {
     },
     height: |table| unsafe { c::lethmuok_height(table.as_ptr(), table.len()) },
     longest_cycle: |table| unsafe { c::lethmuok_longest_cycle(table.as_ptr(), table.len()) },
-    #[cfg(component_reader)]
-    component_start: Some(|code, position| unsafe { c::lethmuok_component_start(code.as_ptr(), code.len(), position) }),
-    #[cfg(component_reader)]
-    component_end: Some(|code, position| unsafe { c::lethmuok_component_end(code.as_ptr(), code.len(), position) }),
-    #[cfg(not(component_reader))]
-    component_start: None,
-    #[cfg(not(component_reader))]
-    component_end: None,
+    component_start: |code, position| unsafe { c::lethmuok_component_start(code.as_ptr(), code.len(), position) },
+    component_end: |code, position| unsafe { c::lethmuok_component_end(code.as_ptr(), code.len(), position) },
 };
 
 /// What an entry writes into a buffer that holds every result, or its reply.

@@ -103,14 +103,10 @@ impl Comparison {
         self.replies("longest_cycle", table, |side| (side.longest_cycle)(table));
     }
 
-    /// Both ends of a component, where the library has a component reader.
+    /// Both ends of a component.
     pub fn component(&mut self, code: &[u8], position: usize) {
-        if ENGINE.component_start.is_some() {
-            self.replies("component_start", code, |side| side.component_start.map_or(0, |entry| entry(code, position)));
-        }
-        if ENGINE.component_end.is_some() {
-            self.replies("component_end", code, |side| side.component_end.map_or(0, |entry| entry(code, position)));
-        }
+        self.replies("component_start", code, |side| (side.component_start)(code, position));
+        self.replies("component_end", code, |side| (side.component_end)(code, position));
     }
 
     /// Which isomorphism is written is left open, so the engine's is checked arrow by arrow.

@@ -9,7 +9,7 @@ mod model;
 use compare::{Comparison, ENTRIES};
 use sides::maps::{shuffled, small_components, uniform, KINDS};
 use sides::random::Random;
-use sides::{code_of, written, ENGINE, PLAIN};
+use sides::{code_of, written, PLAIN};
 use std::path::Path;
 use std::process::ExitCode;
 
@@ -192,9 +192,6 @@ fn bad_tables(comparison: &mut Comparison, random: &mut Random, rounds: usize) {
 fn report(comparison: &Comparison) -> bool {
     for (entry, calls) in ENTRIES.iter().zip(comparison.calls) {
         println!("{entry:16} {calls:>9} calls");
-    }
-    if ENGINE.component_start.is_none() {
-        println!("(the library has no component reader)");
     }
     let calls: u64 = comparison.calls.iter().sum();
     println!("{calls} calls, {} differences", comparison.differences);
