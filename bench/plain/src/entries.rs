@@ -1,0 +1,100 @@
+//! The entries, each with its order of checks (document 01, "Refusing").
+
+use crate::component::Component;
+use crate::map::{checked, cycle_lengths, height as height_of, map_of_system, system_of_map};
+use crate::system::{accepted, successor as next};
+use crate::written::write;
+use crate::{Cause, MOST_POINTS};
+
+/// The reply of a successor entry to the last code of its count.
+pub const LAST: i64 = -10;
+
+/// The reply where there is no isomorphism.
+pub const NONE: i64 = -11;
+
+fn reply(result: Result<i64, Cause>) -> i64 {
+    result.unwrap_or_else(|cause| -(cause as i64))
+}
+
+/// A result fills the first places of the lent buffer, or is refused.
+fn put(result: &[u8], out: &mut [u8]) -> Result<i64, Cause> {
+    out.get_mut(..result.len()).ok_or(Cause::Room)?.copy_from_slice(result);
+    Ok(result.len() as i64)
+}
+
+pub fn accept(code: &[u8]) -> i64 {
+    reply(accepted(code).map(|system| system.iter().map(Component::points).sum::<usize>() as i64))
+}
+
+pub fn first(n: usize, out: &mut [u8]) -> i64 {
+    if n > MOST_POINTS {
+        return reply(Err(Cause::Count));
+    }
+    reply(put(&write(&vec![Component::cycle(1); n]).0, out))
+}
+
+pub fn successor(code: &[u8], out: &mut [u8]) -> i64 {
+    reply(accepted(code).and_then(|system| match next(&system) {
+        None => Ok(LAST),
+        Some(following) => put(&write(&following).0, out),
+    }))
+}
+
+pub fn code_of_map(table: &[u8], out: &mut [u8]) -> i64 {
+    reply(checked(table).and_then(|()| put(&write(&system_of_map(table).0).0, out)))
+}
+
+pub fn map_of_code(code: &[u8], out: &mut [u8]) -> i64 {
+    reply(accepted(code).and_then(|system| put(&map_of_system(&system), out)))
+}
+
+/// Points that stand at the same place of the same code are mapped to each other.
+pub fn isomorphism(f: &[u8], g: &[u8], out: &mut [u8]) -> i64 {
+    reply(checked(f).and_then(|()| checked(g)).and_then(|()| {
+        let ((system, from), (other, to)) = (system_of_map(f), system_of_map(g));
+        if system != other {
+            return Ok(NONE);
+        }
+        let mut renaming = vec![0; f.len()];
+        for (&x, &y) in from.iter().zip(&to) {
+            renaming[x as usize] = y;
+        }
+        put(&renaming, out)
+    }))
+}
+
+/// The rows of the census in two lists beside each other; a row needs a place in both.
+pub fn census(table: &[u8], lengths: &mut [u8], counts: &mut [u8]) -> i64 {
+    reply(checked(table).and_then(|()| {
+        let rows = cycle_lengths(table);
+        if rows.len() > lengths.len().min(counts.len()) {
+            return Err(Cause::Room);
+        }
+        for (i, &(length, count)) in rows.iter().enumerate() {
+            (lengths[i], counts[i]) = (length, count);
+        }
+        Ok(rows.len() as i64)
+    }))
+}
+
+pub fn height(table: &[u8]) -> i64 {
+    reply(checked(table).map(|()| height_of(table) as i64))
+}
+
+pub fn longest_cycle(table: &[u8]) -> i64 {
+    reply(checked(table).map(|()| cycle_lengths(table).last().map_or(0, |&(length, _)| length as i64)))
+}
+
+/// Where the part of the component at a position starts and ends.
+fn component_part(code: &[u8], position: usize) -> Result<(usize, usize), Cause> {
+    let (_, parts) = write(&accepted(code)?);
+    parts.get(position).copied().ok_or(Cause::Position)
+}
+
+pub fn component_start(code: &[u8], position: usize) -> i64 {
+    reply(component_part(code, position).map(|(start, _)| start as i64))
+}
+
+pub fn component_end(code: &[u8], position: usize) -> i64 {
+    reply(component_part(code, position).map(|(_, end)| end as i64))
+}

@@ -1,0 +1,91 @@
+//! The examples and totals of document 01.
+
+use crate::*;
+
+/// A code or a table that an entry wrote, or its reply.
+fn written(entry: impl FnOnce(&mut [u8]) -> i64) -> Result<Vec<u8>, i64> {
+    let mut out = vec![0; 1000];
+    let reply = entry(&mut out);
+    if reply < 0 {
+        return Err(reply);
+    }
+    out.truncate(reply as usize);
+    Ok(out)
+}
+
+/// All codes of n points, by the entries.
+fn listing(n: usize) -> Vec<Vec<u8>> {
+    let mut codes = vec![written(|out| first(n, out)).unwrap()];
+    while let Ok(code) = written(|out| successor(codes.last().unwrap(), out)) {
+        codes.push(code);
+    }
+    codes
+}
+
+#[test]
+fn totals() {
+    for (n, total) in [1, 1, 3, 7, 19, 47, 130, 343, 951, 2615].into_iter().enumerate() {
+        assert_eq!(listing(n).len(), total);
+    }
+    for (n, total) in (1..).zip([1, 2, 4, 9, 20, 51, 125, 329]) {
+        assert_eq!(listing(n).iter().filter(|code| code[1] == 1).count(), total);
+    }
+}
+
+#[test]
+fn every_code_is_accepted_once_and_is_the_code_of_its_map() {
+    let codes = listing(8);
+    for code in &codes {
+        let table = written(|out| map_of_code(code, out)).unwrap();
+        assert_eq!(accept(code), 8);
+        assert_eq!(written(|out| code_of_map(&table, out)).as_ref(), Ok(code));
+    }
+    let different: std::collections::HashSet<_> = codes.iter().collect();
+    assert_eq!(different.len(), codes.len());
+}
+
+#[test]
+fn examples() {
+    assert_eq!(written(|out| code_of_map(&[], out)), Ok(vec![0, 0]));
+    assert_eq!(written(|out| successor(&[0, 0], out)), Err(LAST));
+    assert_eq!(written(|out| code_of_map(&[1, 2, 0], out)), Ok(vec![3, 1, 3, 1, 1, 1]));
+    assert_eq!(written(|out| code_of_map(&[0, 0, 0], out)), Ok(vec![3, 1, 1, 3, 1, 1]));
+    assert_eq!(written(|out| code_of_map(&[0, 0, 1], out)), Ok(vec![3, 1, 1, 3, 2, 1]));
+    assert_eq!(written(|out| successor(&[8, 3, 2, 1, 1, 1, 3, 2, 1, 2, 1, 2, 1], out)), Ok(vec![8, 3, 2, 1, 1, 1, 3, 1, 1, 1, 3, 1, 1]));
+    assert_eq!(written(|out| isomorphism(&[0, 0], &[1, 1], out)), Ok(vec![1, 0]));
+    assert_eq!(written(|out| isomorphism(&[0, 1], &[1, 0], out)), Err(NONE));
+}
+
+#[test]
+fn refusals() {
+    let cases: [(&[u8], i64); 14] = [
+        (&[3, 1, 2, 2, 1, 1], -6),
+        (&[4, 1, 1, 4, 2, 1, 1], -6),
+        (&[3, 2, 2, 1, 1, 1, 1], -6),
+        (&[], -3),
+        (&[128], -3),
+        (&[129, 0], -4),
+        (&[128, 128], -4),
+        (&[0, 1], -5),
+        (&[1, 0], -5),
+        (&[1, 1, 1, 1, 9], -7),
+        (&[200, 1], -3),
+        (&[201, 1], -1),
+        (&[3, 1, 2, 3, 1, 1], -3),
+        (&[2, 1, 1, 1, 9], -5),
+    ];
+    for (code, reply) in cases {
+        assert_eq!(accept(code), reply, "{code:?}");
+    }
+}
+
+#[test]
+fn census_and_components() {
+    let (mut lengths, mut counts) = ([7; 3], [7; 3]);
+    assert_eq!(census(&[1, 0, 2, 2], &mut lengths, &mut counts), 2);
+    assert_eq!((lengths, counts), ([1, 2, 7], [1, 1, 7]));
+    assert_eq!((height(&[1, 0, 2, 2]), longest_cycle(&[1, 0, 2, 2])), (1, 2));
+    let code = [3, 2, 1, 1, 1, 2, 1];
+    assert_eq!((component_start(&code, 1), component_end(&code, 1)), (4, 7));
+    assert_eq!(component_start(&code, 2), -9);
+}

@@ -1,0 +1,89 @@
+//! What is compared: the engine, through its static library, and the plain implementation, under one set of signatures; and the maps that both are given.
+
+pub mod maps;
+pub mod random;
+
+/// The entries of one implementation. A reply is a length or n, minus the number of the cause of a refusal, [`LAST`] or [`NONE`].
+pub struct Side {
+    pub name: &'static str,
+    pub accept: fn(&[u8]) -> i64,
+    pub first: fn(usize, &mut [u8]) -> i64,
+    pub successor: fn(&[u8], &mut [u8]) -> i64,
+    pub code_of_map: fn(&[u8], &mut [u8]) -> i64,
+    pub map_of_code: fn(&[u8], &mut [u8]) -> i64,
+    pub isomorphism: fn(&[u8], &[u8], &mut [u8]) -> i64,
+    pub census: fn(&[u8], &mut [u8], &mut [u8]) -> i64,
+    pub height: fn(&[u8]) -> i64,
+    pub longest_cycle: fn(&[u8]) -> i64,
+    pub component_start: fn(&[u8], usize) -> i64,
+    pub component_end: fn(&[u8], usize) -> i64,
+}
+
+pub use plain::{LAST, NONE};
+
+pub const PLAIN: Side = Side {
+    name: "plain",
+    accept: plain::accept,
+    first: plain::first,
+    successor: plain::successor,
+    code_of_map: plain::code_of_map,
+    map_of_code: plain::map_of_code,
+    isomorphism: plain::isomorphism,
+    census: plain::census,
+    height: plain::height,
+    longest_cycle: plain::longest_cycle,
+    component_start: plain::component_start,
+    component_end: plain::component_end,
+};
+
+/// The C prototypes of the static library: a slice is a pointer, never null, and a count.
+mod c {
+    #[link(name = "c_interface", kind = "static")]
+    extern "C" {
+        pub fn lethmuok_accept(code: *const u8, len: usize) -> i64;
+        pub fn lethmuok_first(n: usize, out: *mut u8, room: usize) -> i64;
+        pub fn lethmuok_successor(code: *const u8, len: usize, out: *mut u8, room: usize) -> i64;
+        pub fn lethmuok_code_of_map(table: *const u8, n: usize, out: *mut u8, room: usize) -> i64;
+        pub fn lethmuok_map_of_code(code: *const u8, len: usize, out: *mut u8, room: usize) -> i64;
+        pub fn lethmuok_isomorphism(f: *const u8, n: usize, g: *const u8, m: usize, out: *mut u8, room: usize) -> i64;
+        pub fn lethmuok_census(table: *const u8, n: usize, lengths: *mut u8, room: usize, counts: *mut u8, other: usize) -> i64;
+        pub fn lethmuok_height(table: *const u8, n: usize) -> i64;
+        pub fn lethmuok_longest_cycle(table: *const u8, n: usize) -> i64;
+        pub fn lethmuok_component_start(code: *const u8, len: usize, position: usize) -> i64;
+        pub fn lethmuok_component_end(code: *const u8, len: usize, position: usize) -> i64;
+    }
+}
+
+// Each call hands over slices that live until it returns, as pointer and count, and no two of them overlap.
+pub const ENGINE: Side = Side {
+    name: "engine",
+    accept: |code| unsafe { c::lethmuok_accept(code.as_ptr(), code.len()) },
+    first: |n, out| unsafe { c::lethmuok_first(n, out.as_mut_ptr(), out.len()) },
+    successor: |code, out| unsafe { c::lethmuok_successor(code.as_ptr(), code.len(), out.as_mut_ptr(), out.len()) },
+    code_of_map: |table, out| unsafe { c::lethmuok_code_of_map(table.as_ptr(), table.len(), out.as_mut_ptr(), out.len()) },
+    map_of_code: |code, out| unsafe { c::lethmuok_map_of_code(code.as_ptr(), code.len(), out.as_mut_ptr(), out.len()) },
+    isomorphism: |f, g, out| unsafe { c::lethmuok_isomorphism(f.as_ptr(), f.len(), g.as_ptr(), g.len(), out.as_mut_ptr(), out.len()) },
+    census: |table, lengths, counts| unsafe {
+        c::lethmuok_census(table.as_ptr(), table.len(), lengths.as_mut_ptr(), lengths.len(), counts.as_mut_ptr(), counts.len())
+    },
+    height: |table| unsafe { c::lethmuok_height(table.as_ptr(), table.len()) },
+    longest_cycle: |table| unsafe { c::lethmuok_longest_cycle(table.as_ptr(), table.len()) },
+    component_start: |code, position| unsafe { c::lethmuok_component_start(code.as_ptr(), code.len(), position) },
+    component_end: |code, position| unsafe { c::lethmuok_component_end(code.as_ptr(), code.len(), position) },
+};
+
+/// What an entry writes into a buffer that holds every result, or its reply.
+pub fn written(entry: impl FnOnce(&mut [u8]) -> i64) -> Result<Vec<u8>, i64> {
+    let mut out = vec![0; 1000];
+    let reply = entry(&mut out);
+    if reply < 0 {
+        return Err(reply);
+    }
+    out.truncate(reply as usize);
+    Ok(out)
+}
+
+/// The code of a map, which must be one, by the plain implementation.
+pub fn code_of(table: &[u8]) -> Vec<u8> {
+    written(|out| plain::code_of_map(table, out)).expect("a table")
+}

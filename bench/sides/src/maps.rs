@@ -1,0 +1,158 @@
+//! Kinds of maps, from the random to the extreme. Each makes a table of n points, n at least 1 and at most 256.
+
+use crate::random::Random;
+
+pub type Kind = (&'static str, fn(usize, &mut Random) -> Vec<u8>);
+
+/// The table of a function of points.
+fn table(n: usize, image: impl FnMut(usize) -> usize) -> Vec<u8> {
+    (0..n).map(image).map(|image| image as u8).collect()
+}
+
+pub fn uniform(n: usize, random: &mut Random) -> Vec<u8> {
+    table(n, |_| random.below(n))
+}
+
+pub fn star(n: usize, _: &mut Random) -> Vec<u8> {
+    table(n, |_| 0)
+}
+
+pub fn path(n: usize, _: &mut Random) -> Vec<u8> {
+    table(n, |x| x.saturating_sub(1))
+}
+
+pub fn one_cycle(n: usize, _: &mut Random) -> Vec<u8> {
+    table(n, |x| (x + 1) % n)
+}
+
+pub fn fixed_points(n: usize, _: &mut Random) -> Vec<u8> {
+    table(n, |x| x)
+}
+
+/// Cycles of two points, and a fixed point where n is odd.
+pub fn pairs(n: usize, _: &mut Random) -> Vec<u8> {
+    table(n, |x| (x ^ 1).min(n - 1))
+}
+
+/// One cycle of each length 1, 2 and on; the last one takes what is left.
+pub fn every_cycle(n: usize, _: &mut Random) -> Vec<u8> {
+    let (mut images, mut start, mut length) = (Vec::new(), 0, 1);
+    while start < n {
+        let points = if n - start < 2 * length + 1 { n - start } else { length };
+        images.extend((0..points).map(|x| (start + (x + 1) % points) as u8));
+        start += points;
+        length += 1;
+    }
+    images
+}
+
+/// A random permutation.
+pub fn cycles(n: usize, random: &mut Random) -> Vec<u8> {
+    let images = random.permutation(n);
+    table(n, |x| images[x])
+}
+
+/// One component with a fixed point, each point attached to a random earlier one.
+pub fn tree(n: usize, random: &mut Random) -> Vec<u8> {
+    table(n, |x| if x == 0 { 0 } else { random.below(x) })
+}
+
+/// A complete binary tree over a fixed point.
+pub fn binary_tree(n: usize, _: &mut Random) -> Vec<u8> {
+    table(n, |x| x.saturating_sub(1) / 2)
+}
+
+/// A cycle of the first half of the points, each with one point attached.
+pub fn comb(n: usize, _: &mut Random) -> Vec<u8> {
+    let k = n.div_ceil(2);
+    table(n, |x| if x < k { (x + 1) % k } else { x - k })
+}
+
+/// A short cycle, and all other points attached at random to it or to each other.
+pub fn short_cycle(n: usize, random: &mut Random) -> Vec<u8> {
+    let k = 1 + random.below(n.min(5));
+    table(n, |x| if x < k { (x + 1) % k } else { random.below(x) })
+}
+
+/// A long cycle with few trees.
+pub fn long_cycle(n: usize, random: &mut Random) -> Vec<u8> {
+    let k = n - n / 10;
+    table(n, |x| if x < k { (x + 1) % k } else { random.below(x) })
+}
+
+/// Random components of a few points each, so that many have equal sizes.
+pub fn small_components(n: usize, random: &mut Random) -> Vec<u8> {
+    let size = 1 + random.below(n.min(8));
+    table(n, |x| {
+        let start = x - x % size;
+        start + random.below(size.min(n - start))
+    })
+}
+
+/// One random map of a few points, repeated.
+pub fn repeated(n: usize, random: &mut Random) -> Vec<u8> {
+    let size = 1 + random.below(n.min(12));
+    let one = uniform(size, random);
+    table(n, |x| {
+        let start = x - x % size;
+        (start + one[x % size] as usize).min(n - 1)
+    })
+}
+
+/// Two components of half of the points each, both random trees over cycles of two points.
+pub fn two_halves(n: usize, random: &mut Random) -> Vec<u8> {
+    let half = n / 2;
+    table(n, |x| {
+        let (start, length) = if x < half { (0, half) } else { (half, n - half) };
+        match x - start {
+            0 => start + 1 % length,
+            1 => start,
+            inside => start + random.below(inside),
+        }
+    })
+}
+
+/// Every arrow goes to one of the nearest smaller points, which makes deep trees.
+pub fn deep(n: usize, random: &mut Random) -> Vec<u8> {
+    table(n, |x| x.saturating_sub(1 + random.below(3)))
+}
+
+/// All kinds.
+pub const KINDS: [Kind; 17] = [
+    ("random", uniform),
+    ("star", star),
+    ("path", path),
+    ("one cycle", one_cycle),
+    ("fixed points", fixed_points),
+    ("cycles of 2", pairs),
+    ("a cycle of each length", every_cycle),
+    ("random permutation", cycles),
+    ("random tree", tree),
+    ("binary tree", binary_tree),
+    ("comb", comb),
+    ("short cycle", short_cycle),
+    ("long cycle", long_cycle),
+    ("small components", small_components),
+    ("one component repeated", repeated),
+    ("two halves", two_halves),
+    ("deep trees", deep),
+];
+
+/// The map with its points renamed at random.
+pub fn shuffled(table: &[u8], random: &mut Random) -> Vec<u8> {
+    let names = random.permutation(table.len());
+    let mut other = vec![0; table.len()];
+    for (x, &image) in table.iter().enumerate() {
+        other[names[x]] = names[image as usize] as u8;
+    }
+    other
+}
+
+/// Each point once, and following f and then r equals r and then g.
+pub fn is_isomorphism(f: &[u8], g: &[u8], r: &[u8]) -> bool {
+    let mut seen = vec![false; f.len()];
+    r.len() == f.len()
+        && g.len() == f.len()
+        && r.iter().all(|&y| (y as usize) < g.len() && !std::mem::replace(&mut seen[y as usize], true))
+        && (0..f.len()).all(|x| r[f[x] as usize] == g[r[x] as usize])
+}

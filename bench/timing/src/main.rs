@@ -1,0 +1,58 @@
+//! Engine and plain implementation on the same work, in turn, and nauty's labelg on the part that it can do. Prints tables in Markdown.
+//!
+//! Every time is the best of several rounds. What is timed is also compared; a difference ends the run.
+
+mod clock;
+mod labelg;
+mod work;
+
+use clock::own_seconds;
+use sides::{ENGINE, PLAIN};
+use work::Work;
+
+/// Each work is repeated so often, the two sides taking turns.
+const ROUNDS: usize = 15;
+
+/// The best time of each side for one call of the work, in microseconds.
+pub fn best(work: &Work) -> [f64; 2] {
+    let mut best = [f64::INFINITY; 2];
+    for _ in 0..ROUNDS {
+        for (best, side) in best.iter_mut().zip([&ENGINE, &PLAIN]) {
+            let start = own_seconds();
+            std::hint::black_box((work.run)(side));
+            *best = best.min(own_seconds() - start);
+        }
+    }
+    best.map(|seconds| seconds * 1e6 / work.calls as f64)
+}
+
+/// A time with three digits that count.
+pub fn digits(time: f64) -> String {
+    match time {
+        t if t >= 100.0 => format!("{t:.0}"),
+        t if t >= 10.0 => format!("{t:.1}"),
+        t => format!("{t:.2}"),
+    }
+}
+
+fn row(work: &Work) {
+    assert!((work.agree)(), "the two sides differ: {}", work.name);
+    let [engine, plain] = best(work);
+    println!("| {} | {} | {} | {} | {:.2} |", work.name, work.calls, digits(engine), digits(plain), engine / plain);
+}
+
+fn table(title: &str, works: Vec<Work>) {
+    println!("\n## {title}\n");
+    println!("| work | calls | engine, µs a call | plain, µs a call | engine / plain |");
+    println!("|---|---:|---:|---:|---:|");
+    works.iter().for_each(row);
+}
+
+fn main() {
+    table("Listing", vec![work::listing(12)]);
+    table("Successors of codes of 200 points", work::successors());
+    table("Code of a map of 200 points", work::codes());
+    table("Isomorphism of two maps of 200 points", work::isomorphisms());
+    table("Other entries on random maps of 200 points", work::others());
+    labelg::table();
+}

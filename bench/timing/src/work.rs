@@ -1,0 +1,164 @@
+//! The works that are timed.
+
+use sides::maps::{is_isomorphism, shuffled, uniform, Kind, KINDS};
+use sides::random::Random;
+use sides::{code_of, written, Side, ENGINE, PLAIN};
+
+/// A work: what one side does of it, in so many calls, and whether both sides get the same.
+pub struct Work {
+    pub name: String,
+    pub calls: usize,
+    pub run: Box<dyn Fn(&Side) -> u64>,
+    pub agree: Box<dyn Fn() -> bool>,
+}
+
+const POINTS: usize = 200;
+
+/// A sum of all bytes, in which their order counts.
+fn digest(sum: u64, bytes: &[u8]) -> u64 {
+    bytes.iter().fold(sum, |sum, &byte| (sum ^ byte as u64).wrapping_mul(0x100_0000_01b3))
+}
+
+/// Codes from a given one on, at most so many: their number, and their digest if it is asked for.
+fn walk(side: &Side, start: &[u8], steps: usize, digested: bool) -> (usize, u64) {
+    let (mut code, mut next) = ([0; 1000], [0; 1000]);
+    let (mut length, mut sum) = (start.len(), 0);
+    code[..length].copy_from_slice(start);
+    for step in 0..steps {
+        let reply = (side.successor)(&code[..length], &mut next);
+        if reply < 0 {
+            return (step, sum);
+        }
+        length = reply as usize;
+        std::mem::swap(&mut code, &mut next);
+        if digested {
+            sum = digest(sum, &code[..length]);
+        }
+    }
+    (steps, sum)
+}
+
+fn walks(name: String, starts: Vec<Vec<u8>>, steps: usize) -> Work {
+    let all = move |side: &Side, digested| starts.iter().map(|start| walk(side, start, steps, digested)).collect::<Vec<_>>();
+    let all = std::rc::Rc::new(all);
+    let same = all.clone();
+    // Each walk ends with a call too, the one that is told "last", unless it is cut short.
+    let calls = all(&PLAIN, false).iter().map(|&(made, _)| if made < steps { made + 1 } else { made }).sum();
+    Work { name, calls, run: Box::new(move |side| all(side, false).len() as u64), agree: Box::new(move || same(&ENGINE, true) == same(&PLAIN, true)) }
+}
+
+/// All codes of n points.
+pub fn listing(n: usize) -> Work {
+    let first = written(|out| (PLAIN.first)(n, out)).expect("a first code");
+    walks(format!("all codes of {n} points"), vec![first], usize::MAX)
+}
+
+/// The code of one component, made of stretches of equal trees.
+fn component(stretches: &[(usize, &[u8])]) -> Vec<u8> {
+    let trees: usize = stretches.iter().map(|&(times, _)| times).sum();
+    let mut numbers = vec![POINTS, 1, trees];
+    for &(times, tree) in stretches {
+        (0..times).for_each(|_| numbers.extend(tree.iter().map(|&x| x as usize)));
+    }
+    let bytes = |x: usize| if x < 128 { vec![x as u8] } else { vec![(x % 128 + 128) as u8, (x / 128) as u8] };
+    let code: Vec<u8> = numbers.into_iter().flat_map(bytes).collect();
+    assert_eq!((PLAIN.accept)(&code), POINTS as i64);
+    code
+}
+
+/// Tables of one kind; of the kinds without chance all are the same.
+fn tables((_, kind): Kind, number: usize) -> Vec<Vec<u8>> {
+    let random = &mut Random::new(1);
+    (0..number).map(|_| kind(POINTS, random)).collect()
+}
+
+/// A thousand steps from each of the extreme codes, and from the code of each kind of map; where chance has a part in the map, a hundred from each of ten.
+pub fn successors() -> Vec<Work> {
+    let extreme: [(&str, Vec<u8>); 6] = [
+        ("200 points along one cycle", component(&[(200, &[1])])),
+        ("196 points along a cycle, then a path of 4", component(&[(196, &[1]), (1, &[4, 3, 2, 1])])),
+        ("102 points along a cycle, then 49 trees of 2", component(&[(102, &[1]), (49, &[2, 1])])),
+        ("100 points along a cycle, then 50 trees of 2", component(&[(100, &[1]), (50, &[2, 1])])),
+        ("4 times: 37 points along a cycle, then a path of 3 and two trees of 5", {
+            let one = [(37, &[1][..]), (1, &[3, 2, 1]), (2, &[5, 1, 1, 1, 1])];
+            component(&[one, one, one, one].concat())
+        }),
+        ("trees of 2 along the whole cycle", component(&[(100, &[2, 1])])),
+    ];
+    let mut works: Vec<Work> = extreme.into_iter().map(|(name, code)| walks(name.into(), vec![code], 1000)).collect();
+    for kind in KINDS {
+        let mut starts: Vec<Vec<u8>> = tables(kind, 10).iter().map(|table| code_of(table)).collect();
+        starts.dedup();
+        let steps = 1000 / starts.len();
+        works.push(walks(format!("from the map: {}", kind.0), starts, steps));
+    }
+    works
+}
+
+/// A work of one call for each input.
+fn calls<T: 'static>(name: &str, inputs: Vec<T>, call: fn(&Side, &T, &mut [u8]) -> i64, good: fn(&T, [&Result<Vec<u8>, i64>; 2]) -> bool) -> Work {
+    let inputs = std::rc::Rc::new(inputs);
+    let same = inputs.clone();
+    let answer = move |side: &Side, input: &T| written(|out| call(side, input, out));
+    Work {
+        name: name.into(),
+        calls: inputs.len(),
+        run: Box::new(move |side| {
+            let mut out = [0; 1000];
+            inputs.iter().map(|input| call(side, input, &mut out) as u64).sum()
+        }),
+        agree: Box::new(move || same.iter().all(|input| good(input, [&answer(&ENGINE, input), &answer(&PLAIN, input)]))),
+    }
+}
+
+pub fn code_of_map(name: &str, tables: Vec<Vec<u8>>) -> Work {
+    calls(name, tables, |side, table, out| (side.code_of_map)(table, out), |_, [engine, plain]| engine.is_ok() && engine == plain)
+}
+
+pub fn codes() -> Vec<Work> {
+    KINDS.iter().map(|&kind| code_of_map(kind.0, tables(kind, 100))).collect()
+}
+
+/// Each map with a shuffled copy, and random maps with other random maps.
+pub fn isomorphisms() -> Vec<Work> {
+    type Pair = (Vec<u8>, Vec<u8>);
+    let random = &mut Random::new(2);
+    let work = |name: &str, pairs: Vec<Pair>| {
+        let good = |(f, g): &Pair, answers: [&Result<Vec<u8>, i64>; 2]| match answers {
+            [Ok(r), Ok(s)] => is_isomorphism(f, g, r) && is_isomorphism(f, g, s),
+            [engine, plain] => engine == plain,
+        };
+        calls(name, pairs, |side, (f, g), out| (side.isomorphism)(f, g, out), good)
+    };
+    let mut works = Vec::new();
+    for kind in KINDS {
+        let pairs = tables(kind, 100).into_iter().map(|f| (f.clone(), shuffled(&f, random))).collect();
+        works.push(work(&format!("{}, and a shuffled copy", kind.0), pairs));
+    }
+    let pairs = (0..100).map(|_| (uniform(POINTS, random), uniform(POINTS, random))).collect();
+    works.push(work("two random maps, not isomorphic", pairs));
+    works
+}
+
+/// The rest of the entries.
+pub fn others() -> Vec<Work> {
+    let equal = |_: &Vec<u8>, [engine, plain]: [&Result<Vec<u8>, i64>; 2]| engine == plain;
+    let tables = tables(KINDS[0], 100);
+    let codes: Vec<Vec<u8>> = tables.iter().map(|table| code_of(table)).collect();
+    vec![
+        calls("accept", codes.clone(), |side, code, _| (side.accept)(code).min(0), equal),
+        calls("map of a code", codes, |side, code, out| (side.map_of_code)(code, out), equal),
+        calls("census, in rising order", tables, |side, table, out| sorted_census(side, table, out), equal),
+    ]
+}
+
+/// The order of the rows of a census is left open.
+fn sorted_census(side: &Side, table: &[u8], out: &mut [u8]) -> i64 {
+    let (lengths, counts) = out.split_at_mut(500);
+    let rows = (side.census)(table, lengths, counts);
+    let mut both: Vec<[u8; 2]> = lengths.iter().zip(counts.iter()).map(|(&l, &c)| [l, c]).take(rows as usize).collect();
+    both.sort();
+    let flat = both.concat();
+    out[..flat.len()].copy_from_slice(&flat);
+    flat.len() as i64
+}

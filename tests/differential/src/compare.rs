@@ -1,0 +1,139 @@
+//! One call of both sides: the replies and the whole lent buffers, with the bytes around them, have to agree.
+
+use sides::maps::is_isomorphism;
+use sides::{Side, ENGINE, PLAIN};
+use std::fmt::Write;
+
+pub const ENTRIES: [&str; 11] =
+    ["accept", "first", "successor", "code_of_map", "map_of_code", "isomorphism", "census", "height", "longest_cycle", "component_start", "component_end"];
+
+/// The bytes in front of a lent buffer and behind it.
+const MARGIN: usize = 16;
+
+/// A buffer and its margins. No result is likely to have these bytes.
+#[derive(PartialEq)]
+struct Lent {
+    bytes: Vec<u8>,
+    room: usize,
+}
+
+impl Lent {
+    fn new(room: usize) -> Lent {
+        Lent { bytes: (0..room + 2 * MARGIN).map(|i| (i as u8).wrapping_mul(37) ^ 0xa5).collect(), room }
+    }
+
+    fn out(&mut self) -> &mut [u8] {
+        &mut self.bytes[MARGIN..MARGIN + self.room]
+    }
+
+    /// The first places, if all other bytes are as they were.
+    fn only_first(&self, places: usize) -> Option<&[u8]> {
+        let untouched = Lent::new(self.room);
+        let end = MARGIN + places;
+        let kept = places <= self.room && self.bytes[..MARGIN] == untouched.bytes[..MARGIN] && self.bytes[end..] == untouched.bytes[end..];
+        kept.then(|| &self.bytes[MARGIN..end])
+    }
+}
+
+/// What has been compared so far.
+pub struct Comparison {
+    pub calls: [u64; ENTRIES.len()],
+    pub differences: u64,
+}
+
+impl Comparison {
+    pub fn new() -> Comparison {
+        Comparison { calls: [0; ENTRIES.len()], differences: 0 }
+    }
+
+    /// Counts a call, and shows the first differences.
+    pub fn count(&mut self, entry: &str, agree: bool, show: impl FnOnce(&mut String)) {
+        let place = ENTRIES.iter().position(|&name| name == entry).expect("an entry");
+        self.calls[place] += 1;
+        if agree {
+            return;
+        }
+        self.differences += 1;
+        if self.differences <= 20 {
+            let mut text = String::new();
+            show(&mut text);
+            println!("DIFFERENCE in {entry}: {text}");
+        }
+    }
+
+    fn replies(&mut self, entry: &str, input: &[u8], call: impl Fn(&Side) -> i64) {
+        let (engine, plain) = (call(&ENGINE), call(&PLAIN));
+        self.count(entry, engine == plain, |text| write!(text, "engine {engine}, plain {plain}, input {input:?}").unwrap());
+    }
+
+    fn buffers(&mut self, entry: &str, input: &[u8], room: usize, call: impl Fn(&Side, &mut [u8]) -> i64) {
+        let (mut by_engine, mut by_plain) = (Lent::new(room), Lent::new(room));
+        let (engine, plain) = (call(&ENGINE, by_engine.out()), call(&PLAIN, by_plain.out()));
+        self.count(entry, engine == plain && by_engine == by_plain, |text| {
+            let (e, p) = (by_engine.out(), by_plain.out());
+            write!(text, "engine {engine} {e:?}, plain {plain} {p:?}, room {room}, input {input:?}").unwrap()
+        });
+    }
+
+    pub fn accept(&mut self, code: &[u8]) {
+        self.replies("accept", code, |side| (side.accept)(code));
+    }
+
+    pub fn first(&mut self, n: usize, room: usize) {
+        self.buffers("first", &n.to_le_bytes(), room, |side, out| (side.first)(n, out));
+    }
+
+    pub fn successor(&mut self, code: &[u8], room: usize) {
+        self.buffers("successor", code, room, |side, out| (side.successor)(code, out));
+    }
+
+    pub fn code_of_map(&mut self, table: &[u8], room: usize) {
+        self.buffers("code_of_map", table, room, |side, out| (side.code_of_map)(table, out));
+    }
+
+    pub fn map_of_code(&mut self, code: &[u8], room: usize) {
+        self.buffers("map_of_code", code, room, |side, out| (side.map_of_code)(code, out));
+    }
+
+    pub fn height(&mut self, table: &[u8]) {
+        self.replies("height", table, |side| (side.height)(table));
+    }
+
+    pub fn longest_cycle(&mut self, table: &[u8]) {
+        self.replies("longest_cycle", table, |side| (side.longest_cycle)(table));
+    }
+
+    /// Both ends of a component.
+    pub fn component(&mut self, code: &[u8], position: usize) {
+        self.replies("component_start", code, |side| (side.component_start)(code, position));
+        self.replies("component_end", code, |side| (side.component_end)(code, position));
+    }
+
+    /// Which isomorphism is written is left open, so the engine's is checked arrow by arrow.
+    pub fn isomorphism(&mut self, f: &[u8], g: &[u8], room: usize) {
+        let mut lent = Lent::new(room);
+        let engine = (ENGINE.isomorphism)(f, g, lent.out());
+        let plain = (PLAIN.isomorphism)(f, g, Lent::new(room).out());
+        let written = lent.only_first(engine.max(0) as usize);
+        let good = written.is_some_and(|r| engine < 0 || is_isomorphism(f, g, r));
+        self.count("isomorphism", engine == plain && good, |text| {
+            write!(text, "engine {engine}, plain {plain}, written {written:?}, room {room}, maps {f:?} {g:?}").unwrap()
+        });
+    }
+
+    /// The order of the rows is left open, so they are compared sorted.
+    pub fn census(&mut self, table: &[u8], room: usize, other: usize) {
+        let rows = |side: &Side| {
+            let (mut lengths, mut counts) = (Lent::new(room), Lent::new(other));
+            let reply = (side.census)(table, lengths.out(), counts.out());
+            let places = reply.max(0) as usize;
+            let mut rows: Option<Vec<(u8, u8)>> =
+                lengths.only_first(places).zip(counts.only_first(places)).map(|(l, c)| l.iter().copied().zip(c.iter().copied()).collect());
+            rows.iter_mut().for_each(|rows| rows.sort());
+            (reply, rows)
+        };
+        let (engine, plain) = (rows(&ENGINE), rows(&PLAIN));
+        let good = engine == plain && engine.1.is_some();
+        self.count("census", good, |text| write!(text, "engine {engine:?}, plain {plain:?}, rooms {room} {other}, map {table:?}").unwrap());
+    }
+}

@@ -1,0 +1,107 @@
+//! What the entries are given: each input to every entry that takes it, with rooms that are too short, just enough and more.
+
+use crate::compare::Comparison;
+use sides::random::Random;
+use sides::{written, PLAIN};
+
+/// Rooms around the length of a result; a refused call gets some all the same.
+fn rooms(result: &Result<Vec<u8>, i64>) -> Vec<usize> {
+    match result {
+        Ok(result) if result.is_empty() => vec![0, 5],
+        Ok(result) => vec![result.len() - 1, result.len(), result.len() + 9],
+        Err(_) => vec![0, 300],
+    }
+}
+
+/// A code, good or bad, to every entry that takes one.
+pub fn code(comparison: &mut Comparison, code: &[u8]) {
+    comparison.accept(code);
+    for room in rooms(&written(|out| (PLAIN.successor)(code, out))) {
+        comparison.successor(code, room);
+    }
+    for room in rooms(&written(|out| (PLAIN.map_of_code)(code, out))) {
+        comparison.map_of_code(code, room);
+    }
+    let components = code.get(1).map_or(0, |&m| m as usize);
+    for position in [0, components / 2, components.saturating_sub(1), components, usize::MAX] {
+        comparison.component(code, position);
+    }
+}
+
+/// A table, good or bad, to every entry that takes one.
+pub fn table(comparison: &mut Comparison, table: &[u8]) {
+    for room in rooms(&written(|out| (PLAIN.code_of_map)(table, out))) {
+        comparison.code_of_map(table, room);
+    }
+    census(comparison, table);
+    comparison.height(table);
+    comparison.longest_cycle(table);
+}
+
+/// The two lists of a census with every shape of room.
+fn census(comparison: &mut Comparison, table: &[u8]) {
+    let rows = (PLAIN.census)(table, &mut [0; 200], &mut [0; 200]).max(1) as usize;
+    for (room, other) in [(rows, rows), (rows - 1, rows), (rows, rows - 1), (19, 19), (0, 30)] {
+        comparison.census(table, room, other);
+    }
+}
+
+/// Two tables, good or bad, in both orders.
+pub fn two_tables(comparison: &mut Comparison, f: &[u8], g: &[u8]) {
+    for room in rooms(&written(|out| (PLAIN.isomorphism)(f, g, out))) {
+        comparison.isomorphism(f, g, room);
+        comparison.isomorphism(g, f, room);
+    }
+}
+
+/// Bytes at which the forms of numbers, or the counts, change.
+const EDGES: [u8; 12] = [0, 1, 2, 3, 126, 127, 128, 129, 199, 200, 201, 255];
+
+/// A byte that is likely to hurt: an edge, one near the old byte, or any.
+fn hurting_byte(old: u8, random: &mut Random) -> u8 {
+    match random.below(4) {
+        0 => *random.pick(&EDGES),
+        1 => old.wrapping_add(1),
+        2 => old.wrapping_sub(1),
+        _ => random.byte(),
+    }
+}
+
+/// A number below 128 in the form of two bytes, which is refused.
+fn longer_form(code: &mut Vec<u8>, place: usize) {
+    code[place] |= 128;
+    code.insert(place + 1, 0);
+}
+
+/// Damages bytes at one place: changed, left out, put in, exchanged, in a longer form, cut off, or with more behind.
+pub fn damage(bytes: &mut Vec<u8>, random: &mut Random) {
+    if bytes.is_empty() {
+        return bytes.push(random.byte());
+    }
+    let (place, other) = (random.below(bytes.len()), random.below(bytes.len()));
+    let hurting = hurting_byte(bytes[place], random);
+    match random.below(8) {
+        0 | 1 => bytes[place] = hurting,
+        2 => drop(bytes.remove(place)),
+        3 => bytes.insert(place, hurting),
+        4 => bytes.swap(place, other),
+        5 => longer_form(bytes, place),
+        6 => bytes.truncate(place),
+        _ => bytes.push(hurting),
+    }
+}
+
+/// Exchanges two stretches that stand side by side, as two trees or components may be.
+pub fn exchange(bytes: &mut [u8], random: &mut Random) {
+    let mut ends = [random.below(bytes.len() + 1), random.below(bytes.len() + 1), random.below(bytes.len() + 1)];
+    ends.sort();
+    bytes[ends[0]..ends[2]].rotate_left(ends[1] - ends[0]);
+}
+
+/// Bytes of no special form: any, small ones, or a short pattern over and over.
+pub fn noise(length: usize, random: &mut Random) -> Vec<u8> {
+    let most = *random.pick(&[2, 3, 5, 20, 130, 256]);
+    let period = if random.below(3) == 0 { 1 + random.below(6) } else { length.max(1) };
+    let pattern: Vec<u8> = (0..period).map(|_| random.below(most) as u8).collect();
+    pattern.into_iter().cycle().take(length).collect()
+}

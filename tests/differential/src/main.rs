@@ -1,0 +1,221 @@
+//! The engine, through its static library, against the plain implementation. The inputs are the same in every run.
+//!
+//! It is given the directory of the cases of `tools/plain_model.py`, prints the number of calls of each entry, and fails if an answer differs.
+
+mod compare;
+mod inputs;
+mod model;
+
+use compare::{Comparison, ENTRIES};
+use sides::maps::{shuffled, small_components, uniform, KINDS};
+use sides::random::Random;
+use sides::{code_of, written, PLAIN};
+use std::path::Path;
+use std::process::ExitCode;
+
+/// The calls that a run has to make.
+const LEAST_CALLS: u64 = 1_000_000;
+
+/// All codes of n points.
+fn codes(n: usize) -> Vec<Vec<u8>> {
+    let mut found = vec![written(|out| (PLAIN.first)(n, out)).expect("a first code")];
+    while let Ok(code) = written(|out| (PLAIN.successor)(&found[found.len() - 1], out)) {
+        found.push(code);
+    }
+    found
+}
+
+/// Every count up to some above 200, and huge ones, with rooms around the length.
+fn firsts(comparison: &mut Comparison) {
+    for n in (0..=300).chain([1000, 65_536, usize::MAX - 1, usize::MAX]) {
+        let length = written(|out| (PLAIN.first)(n, out)).map_or(2, |code| code.len());
+        for room in [0, length - 1, length, length + 1, 1000] {
+            comparison.first(n, room);
+        }
+    }
+}
+
+/// Every code of up to 8 points.
+fn every_code(comparison: &mut Comparison) {
+    for code in (0..=8).flat_map(codes) {
+        inputs::code(comparison, &code);
+    }
+}
+
+/// Every code of up to 6 points with any one byte changed, one left out, or one put in.
+fn every_small_damage(comparison: &mut Comparison) {
+    for code in (0..=6).flat_map(codes) {
+        for place in 0..code.len() {
+            let mut other = code.clone();
+            for byte in 0..=255 {
+                other[place] = byte;
+                comparison.accept(&other);
+            }
+            other.remove(place);
+            inputs::code(comparison, &other);
+            for byte in [0, 1, 2, 3, 4, 127, 128, 255] {
+                let mut other = code.clone();
+                other.insert(place, byte);
+                comparison.accept(&other);
+            }
+        }
+    }
+}
+
+/// Every map of up to 6 points.
+fn every_map(comparison: &mut Comparison) {
+    for n in 0..=6usize {
+        for number in 0..n.pow(n as u32) {
+            let table: Vec<u8> = (0..n).map(|x| (number / n.pow(x as u32) % n) as u8).collect();
+            if n < 6 {
+                inputs::table(comparison, &table);
+            } else {
+                comparison.code_of_map(&table, 20);
+            }
+        }
+    }
+}
+
+/// Every two maps of 3 points, and random ones of a few points, which are often isomorphic.
+fn small_pairs(comparison: &mut Comparison, random: &mut Random) {
+    let map = |number: usize| [(number % 3) as u8, (number / 3 % 3) as u8, (number / 9) as u8];
+    for number in 0..27 * 27 {
+        inputs::two_tables(comparison, &map(number / 27), &map(number % 27));
+    }
+    for _ in 0..20_000 {
+        let n = 1 + random.below(6);
+        let m = if random.below(10) == 0 { 1 + random.below(6) } else { n };
+        inputs::two_tables(comparison, &uniform(n, random), &uniform(m, random));
+    }
+}
+
+/// A count of points, the larger ones around the edges of the written forms.
+fn any_count(random: &mut Random) -> usize {
+    match random.below(4) {
+        0 => 1 + random.below(12),
+        1 => 1 + random.below(60),
+        2 => 1 + random.below(200),
+        _ => *random.pick(&[126, 127, 128, 129, 130, 199, 200]),
+    }
+}
+
+/// Maps of every kind: the code, the map of it, shuffled copies, and maps that differ in one arrow.
+fn kinds(comparison: &mut Comparison, random: &mut Random, rounds: usize) {
+    for (_, kind) in KINDS {
+        for _ in 0..rounds {
+            let n = any_count(random);
+            let table = kind(n, random);
+            inputs::table(comparison, &table);
+            inputs::code(comparison, &code_of(&table));
+            let mut copy = shuffled(&table, random);
+            comparison.code_of_map(&copy, 1000);
+            inputs::two_tables(comparison, &table, &copy);
+            copy[random.below(n)] = random.below(n) as u8;
+            inputs::two_tables(comparison, &table, &copy);
+        }
+    }
+}
+
+/// Successors one after another, from codes of every kind.
+fn steps(comparison: &mut Comparison, random: &mut Random, rounds: usize) {
+    for (_, kind) in KINDS {
+        for _ in 0..rounds {
+            let mut code = code_of(&kind(any_count(random), random));
+            for _ in 0..60 {
+                comparison.accept(&code);
+                comparison.successor(&code, 1000);
+                let Ok(next) = written(|out| (PLAIN.successor)(&code, out)) else { break };
+                code = next;
+            }
+        }
+    }
+}
+
+/// Codes of every kind, damaged at one to three places.
+fn damaged_codes(comparison: &mut Comparison, random: &mut Random, rounds: usize) {
+    for (_, kind) in KINDS {
+        for _ in 0..rounds {
+            let code = code_of(&kind(any_count(random), random));
+            for _ in 0..8 {
+                let mut other = code.clone();
+                for _ in 0..1 + random.below(3) {
+                    inputs::damage(&mut other, random);
+                }
+                inputs::code(comparison, &other);
+            }
+        }
+    }
+}
+
+/// Codes with two stretches exchanged: often all sizes fit and only the order is wrong.
+fn reordered_codes(comparison: &mut Comparison, random: &mut Random, rounds: usize) {
+    for _ in 0..rounds {
+        let n = 2 + random.below(14);
+        let mut code = code_of(&small_components(n, random));
+        inputs::exchange(&mut code[2..], random);
+        inputs::code(comparison, &code);
+    }
+}
+
+/// Bytes of no special form, behind a count of points or not, short and up to 10,000.
+fn noise(comparison: &mut Comparison, random: &mut Random, rounds: usize) {
+    for round in 0..rounds {
+        let length = if round % 100 == 0 { *random.pick(&[1000, 4000, 10_000]) } else { random.below(30) };
+        let mut code = inputs::noise(length, random);
+        if random.below(2) == 0 && length > 1 {
+            code[0] = random.below(length) as u8;
+            code[1] = 1 + random.below(3) as u8;
+        }
+        inputs::code(comparison, &code);
+    }
+}
+
+/// Tables with bytes out of range, and tables that are too long.
+fn bad_tables(comparison: &mut Comparison, random: &mut Random, rounds: usize) {
+    for round in 0..rounds {
+        let n = any_count(random);
+        let good = uniform(n, random);
+        let mut bad = good.clone();
+        match round % 4 {
+            0 => bad[random.below(n)] = n as u8,
+            1 => bad[random.below(n)] = random.byte(),
+            2 => bad = inputs::noise(*random.pick(&[201, 202, 256, 300, 10_000]), random),
+            _ => bad = inputs::noise(n, random),
+        }
+        inputs::table(comparison, &bad);
+        inputs::two_tables(comparison, &good, &bad);
+        inputs::two_tables(comparison, &bad, &bad);
+    }
+}
+
+/// The number of calls of each entry, and whether the run was long enough and without a difference.
+fn report(comparison: &Comparison) -> bool {
+    for (entry, calls) in ENTRIES.iter().zip(comparison.calls) {
+        println!("{entry:16} {calls:>9} calls");
+    }
+    let calls: u64 = comparison.calls.iter().sum();
+    println!("{calls} calls, {} differences", comparison.differences);
+    comparison.differences == 0 && calls >= LEAST_CALLS
+}
+
+fn main() -> ExitCode {
+    let data = std::env::args().nth(1).expect("the directory of the cases");
+    let (comparison, random) = (&mut Comparison::new(), &mut Random::new(1));
+    model::run(comparison, Path::new(&data));
+    firsts(comparison);
+    every_code(comparison);
+    every_small_damage(comparison);
+    every_map(comparison);
+    small_pairs(comparison, random);
+    kinds(comparison, random, 100);
+    steps(comparison, random, 25);
+    damaged_codes(comparison, random, 150);
+    reordered_codes(comparison, random, 20_000);
+    noise(comparison, random, 20_000);
+    bad_tables(comparison, random, 4_000);
+    if report(comparison) {
+        ExitCode::SUCCESS
+    } else {
+        ExitCode::FAILURE
+    }
+}

@@ -1,0 +1,112 @@
+//! The cases in `crates/checks/data`, made by `tools/plain_model.py`, a third implementation: both sides have to answer them. `tools/README.md` has the format.
+
+use crate::compare::Comparison;
+use sides::maps::is_isomorphism;
+use sides::{written, Side, ENGINE, LAST, NONE, PLAIN};
+use std::fmt::Write;
+use std::path::Path;
+
+/// The numbers of a line that have not been read.
+struct Line<'a>(std::str::SplitWhitespace<'a>);
+
+impl Line<'_> {
+    fn number(&mut self) -> usize {
+        self.0.next().and_then(|word| word.parse().ok()).expect("a number")
+    }
+
+    /// A length, and a list of so many bytes, unless its pattern is empty.
+    fn list(&mut self) -> (usize, Vec<u8>) {
+        let (length, period) = (self.number(), self.number());
+        let pattern: Vec<u8> = (0..period).map(|_| self.number() as u8).collect();
+        (length, pattern.into_iter().cycle().take(length).collect())
+    }
+}
+
+/// A census as the data has it: height, longest cycle, and the rows, here sorted.
+fn census(side: &Side, table: &[u8], room: usize) -> (i64, Vec<u8>) {
+    let (mut lengths, mut counts) = (vec![0; room], vec![0; room]);
+    let reply = (side.census)(table, &mut lengths, &mut counts);
+    if reply < 0 {
+        return (reply, Vec::new());
+    }
+    let mut rows: Vec<[u8; 2]> = lengths.into_iter().zip(counts).map(|(l, c)| [l, c]).take(reply as usize).collect();
+    rows.sort();
+    let heads = [(side.height)(table) as u8, (side.longest_cycle)(table) as u8];
+    (reply, heads.into_iter().chain(rows.into_iter().flatten()).collect())
+}
+
+/// The reply to a case, and what was written.
+fn answer(side: &Side, entry: usize, room: usize, first: &(usize, Vec<u8>), second: &[u8]) -> (i64, Vec<u8>) {
+    let (count, input) = first;
+    if entry == 7 {
+        return census(side, input, room);
+    }
+    let mut out = vec![0; room];
+    let reply = match entry {
+        1 => return ((side.accept)(input), Vec::new()),
+        2 => (side.first)(*count, &mut out),
+        3 => (side.successor)(input, &mut out),
+        4 => (side.code_of_map)(input, &mut out),
+        5 => (side.map_of_code)(input, &mut out),
+        6 => (side.isomorphism)(input, second, &mut out),
+        _ => panic!("no entry {entry}"),
+    };
+    out.truncate(reply.max(0) as usize);
+    (reply, out)
+}
+
+const NAMES: [&str; 8] = ["", "accept", "first", "successor", "code_of_map", "map_of_code", "isomorphism", "census"];
+
+/// One line of a file of cases.
+fn case(comparison: &mut Comparison, line: &str) {
+    let mut words = Line(line.split_whitespace());
+    let (entry, room) = (words.number(), words.number());
+    let (first, second) = (words.list(), words.list().1);
+    let (kind, value) = (words.number(), words.number() as i64);
+    let reply = [value, LAST, NONE, -value][kind];
+    let expected = (reply, words.list().1);
+    for side in [&ENGINE, &PLAIN] {
+        let got = answer(side, entry, room, &first, &second);
+        comparison.count(NAMES[entry], got == expected, |text| write!(text, "{} {got:?}, model {expected:?}, case {line}", side.name).unwrap());
+    }
+}
+
+/// One line of the file of maps with shuffled copies.
+fn pair(comparison: &mut Comparison, line: &str) {
+    let mut words = Line(line.split_whitespace());
+    let (f, g) = (words.list().1, words.list().1);
+    for side in [&ENGINE, &PLAIN] {
+        let got = written(|out| (side.isomorphism)(&f, &g, out));
+        let good = got.as_ref().is_ok_and(|r| is_isomorphism(&f, &g, r));
+        comparison.count("isomorphism", good, |text| write!(text, "{} {got:?}, case {line}", side.name).unwrap());
+    }
+}
+
+/// A whole listing: a header, numbered codes, the total.
+fn listing(comparison: &mut Comparison, n: usize, text: &str) {
+    for side in [&ENGINE, &PLAIN] {
+        let mut code = written(|out| (side.first)(n, out));
+        let mut entry = "first";
+        for line in text.lines().skip(1) {
+            let expected: Result<Vec<u8>, i64> = match line.split_once(": ") {
+                Some((_, numbers)) => Ok(numbers.split(' ').map(|x| x.parse().expect("a byte")).collect()),
+                None => Err(LAST),
+            };
+            comparison.count(entry, code == expected, |text| write!(text, "{} {code:?}, listing {expected:?}", side.name).unwrap());
+            entry = "successor";
+            code = expected.and_then(|code| written(|out| (side.successor)(&code, out)));
+        }
+    }
+}
+
+/// All files of the data.
+pub fn run(comparison: &mut Comparison, data: &Path) {
+    let read = |name: &str| std::fs::read_to_string(data.join(name)).expect(name);
+    for name in ["examples", "damaged", "damaged_long", "reordered", "hostile", "rooms", "steps", "codes", "census"] {
+        read(name).lines().for_each(|line| case(comparison, line));
+    }
+    read("pairs").lines().for_each(|line| pair(comparison, line));
+    for n in 0..=8 {
+        listing(comparison, n, &read(&format!("listing_{n}")));
+    }
+}
