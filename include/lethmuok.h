@@ -31,8 +31,8 @@ enum {
     LETHMUOK_TRAILING = -7,      /* there are numbers after the code */
     LETHMUOK_ROOM = -8,          /* the output is shorter than the result */
     LETHMUOK_POSITION = -9,      /* the code has no component at that position */
-    LETHMUOK_LAST = -10,         /* no code follows in the list */
-    LETHMUOK_NONE = -11          /* there is no isomorphism */
+    LETHMUOK_LAST = -100,        /* no code follows in the list */
+    LETHMUOK_NONE = -101         /* there is no isomorphism */
 };
 
 /* What always suffices: points of a map, bytes of a code, entries of a census. */

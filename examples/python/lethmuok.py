@@ -18,8 +18,8 @@ CAUSES = {
     8: "the output is shorter than the result",
     9: "the code has no component at that position",
 }
-_LAST = -10
-_NONE = -11
+_LAST = -100
+_NONE = -101
 _MAX_CODE = 1000
 _MAX_ENTRIES = 19
 
@@ -43,7 +43,7 @@ def _call(name, *arguments):
     function = getattr(_c, name)
     function.restype = ctypes.c_int64
     reply = function(*flat)
-    if -10 < reply < 0:
+    if _LAST < reply < 0:
         raise Refused(-reply)
     return reply
 

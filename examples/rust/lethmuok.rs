@@ -67,8 +67,8 @@ impl From<i64> for Reply {
             -7 => Reply::Refused(Refusal::Trailing),
             -8 => Reply::Refused(Refusal::Room),
             -9 => Reply::Refused(Refusal::Position),
-            -10 => Reply::Last,
-            -11 => Reply::Nothing,
+            -100 => Reply::Last,
+            -101 => Reply::Nothing,
             length => Reply::Number(usize::try_from(length).expect("the library has no other answers")),
         }
     }

@@ -7,10 +7,10 @@ use crate::written::write;
 use crate::{Cause, MOST_POINTS};
 
 /// The reply of a successor entry to the last code of its count.
-pub const LAST: i64 = -10;
+pub const LAST: i64 = -100;
 
 /// The reply where there is no isomorphism.
-pub const NONE: i64 = -11;
+pub const NONE: i64 = -101;
 
 fn reply(result: Result<i64, Cause>) -> i64 {
     result.unwrap_or_else(|cause| -(cause as i64))

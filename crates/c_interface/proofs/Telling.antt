@@ -12,7 +12,7 @@ use Rattle.c_interface.specs.Numbers.{signedOf}
 -- the reply that a caller takes a number for
 abbrev pub replyOf : ℤ → Answer
 replyOf (pos n) = length-is n
-replyOf (negsuc k) = cond (eqb k 9) last (cond (eqb k 10) none-exists (refused (suc k)))
+replyOf (negsuc k) = cond (eqb k 99) last (cond (eqb k 100) none-exists (refused (suc k)))
 
 pub length-told : (n : ℕ) → replyOf (signedOf (length-is n)) ≡ length-is n
 length-told n = refl

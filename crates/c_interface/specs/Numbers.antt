@@ -1,5 +1,5 @@
--- The replies of document 01 as one signed number, for callers in C: what is counted is itself, a refusal is minus its number, "last" is −10 and
--- "none" is −11.
+-- The replies of document 01 as one signed number, for callers in C: what is counted is itself, a refusal is minus its number, "last" is −100 and
+-- "none" is −101, far from the causes, of which there may be more one day.
 use mathlib.Core.Path.{_≡_}
 use mathlib.Core.List.{List}
 use Prim.Native.Nat.{ℕ}
@@ -12,8 +12,8 @@ use Rattle.engine.specs.Rows.{RowsReplied}
 
 abbrev pub signedOf : Answer → ℤ
 signedOf (length-is n) = pos n
-signedOf last = negℤ (pos 10)
-signedOf none-exists = negℤ (pos 11)
+signedOf last = negℤ (pos 100)
+signedOf none-exists = negℤ (pos 101)
 signedOf (refused c) = negℤ (pos c)
 
 -- an entry that found o replied with the number r and left the output so

@@ -92,7 +92,7 @@ pub extern "C" fn lethmuok_successor(code: &[u8], out: &mut [u8]) -> i64
 {
     match engine::successor(code, out) {
         Successor::Length(n) => counted(n),
-        Successor::Last => -10,
+        Successor::Last => -100,
         Successor::Refused(cause) => refusal(cause),
     }
 }
@@ -120,7 +120,7 @@ pub extern "C" fn lethmuok_isomorphism(f: &[u8], g: &[u8], out: &mut [u8]) -> i6
 {
     match engine::isomorphism(f, g, out) {
         Isomorphism::Points(n) => counted(n),
-        Isomorphism::Nothing => -11,
+        Isomorphism::Nothing => -101,
         Isomorphism::Refused(cause) => refusal(cause),
     }
 }
