@@ -1,5 +1,5 @@
--- Words none of whose rotations is less, found in one pass (J.-P. Duval). A word read so far keeps the length p of its shortest beginning of which it
--- is a power, cut off somewhere; each further letter is compared with the letter p places before it.
+-- Necklaces, that is, words none of whose rotations is less, found in one pass [J.-P. Duval, Factorizing words over an ordered alphabet, 1983]. What was
+-- read is a prenecklace, a beginning of a power of its first p letters, and each further letter is compared with the letter p places before it.
 use mathlib.Core.Path.{_≡_, refl, ap, ap₂, sym, _∙_}
 use mathlib.Core.Bool.{true}
 use mathlib.Core.List.{List, [], _∷_, _++_, append-assoc, append-nil}
@@ -43,6 +43,7 @@ module _ {A : Type 0} (c : A → A → Ordering) where
   upTo-cut (x ∷ l) (y ∷ m) e h =
       by-order (c x y) (λ o. rw o) (λ o. rw o (upTo-cut l m e (rw o at h))) (λ o. rw o (rw o at h))
 
+  -- words of the same length are compared to their ends
   upTo-length : (l d m : List A) → length l ≡ length m → upTo c (l ++ d) m ≡ lex c l m
   upTo-length [] d [] h = refl
   upTo-length [] d (y ∷ m) h = absurd (omega arith)
@@ -50,6 +51,7 @@ module _ {A : Type 0} (c : A → A → Ordering) where
   upTo-length (x ∷ l) d (y ∷ m) h = ap (then (c x y)) (upTo-length l d m (omega arith))
 
 module _ {A : Type 0} {c : A → A → Ordering} (w : Lawful c) where
+  -- a common beginning does not matter
   upTo-strip : (b l m : List A) → upTo c (b ++ l) (b ++ m) ≡ upTo c l m
   upTo-strip [] l m = refl
   upTo-strip (x ∷ b) l m = rw (w .self x) (upTo-strip b l m)
@@ -77,16 +79,16 @@ module _ {A : Type 0} {c : A → A → Ordering} (w : Lawful c) where
       (λ q. rw q (greater-letter l d y x (omega arith) (rw q at h) o))
       (λ q. no-both (rw q at h) refl)
 
--- What is kept of a word `a` read so far: it is a beginning of a power of its first p letters, and each of its ends that begins inside of these is
--- greater than as long a beginning.
-pub record Powers {A : Type 0} (c : A → A → Ordering) (p : ℕ) (a : List A) : Type 0 where
+-- A prenecklace of period p: a beginning of a power of its first p letters, and each of its ends that begins inside of these is greater than as long
+-- a beginning.
+pub record Prenecklace {A : Type 0} (c : A → A → Ordering) (p : ℕ) (a : List A) : Type 0 where
   pub positive : 0 < p
   pub within : p ≤ length a
   pub repeats : upTo c a (drop p a) ≡ Ordering·eq
   pub greater : (j : ℕ) → 0 < j → j < p → upTo c a (drop j a) ≡ Ordering·lt
 
-pub powers-one : {A : Type 0} (c : A → A → Ordering) (x : A) → Powers c 1 (x ∷ [])
-powers-one c x = record { positive = omega arith; within = omega arith; repeats = refl; greater = λ j h k. absurd (omega arith) }
+pub prenecklace-one : {A : Type 0} (c : A → A → Ordering) (x : A) → Prenecklace c 1 (x ∷ [])
+prenecklace-one c x = record { positive = omega arith; within = omega arith; repeats = refl; greater = λ j h k. absurd (omega arith) }
 
 -- the letter one period before the next
 pub record Earlier {A : Type 0} (p : ℕ) (a : List A) : Type 0 where
@@ -94,7 +96,7 @@ pub record Earlier {A : Type 0} (p : ℕ) (a : List A) : Type 0 where
   pub later : List A
   pub cut : a ≡ drop p a ++ (letter ∷ later)
 
-module _ {A : Type 0} {c : A → A → Ordering} (w : Lawful c) {p : ℕ} {a : List A} (s : Powers c p a) where
+module _ {A : Type 0} {c : A → A → Ordering} (w : Lawful c) {p : ℕ} {a : List A} (s : Prenecklace c p a) where
   pub earlier : Earlier p a
   earlier = pick (begins-upTo w a (drop p a) (omega (arith, length-drop p a)) (s .repeats))
     where
@@ -110,7 +112,7 @@ module _ {A : Type 0} {c : A → A → Ordering} (w : Lawful c) {p : ℕ} {a : L
       ∙ drop-append-le (j - p) (drop p a) (y .letter ∷ y .later) (omega (arith, length-drop p a))
       ∙ ap (λ l. l ++ (y .letter ∷ y .later)) (drop-drop (j - p) p a ∙ ap (λ m. drop m a) sum)
 
-  -- no stretch is less than as long a beginning
+  -- no stretch is less than as long a beginning: first where it begins inside of the period, then by going back period after period
   stretch-inside : (j : ℕ) → j < p → (f e : List A) → drop j a ≡ f ++ e → isLe (upTo c a f) ≡ true
   stretch-inside zero k f e q = ap (λ l. isLe (upTo c l f)) q ∙ ap isLe (upTo-begins w f e)
   stretch-inside (suc j) k f e q =
@@ -143,17 +145,17 @@ module _ {A : Type 0} {c : A → A → Ordering} (w : Lawful c) {p : ℕ} {a : L
         ap (upTo c (a ++ (x ∷ []))) (drop-append-le j a (x ∷ []) h) ∙ upTo-more c a (drop j a) (x ∷ []) (x ∷ []) (λ q. lt-not-eq g q) ∙ g
 
     -- equal letters: the period stays
-    pub powers-equal : c (y .letter) x ≡ Ordering·eq → Powers c p (a ++ (x ∷ []))
-    powers-equal o = record {
+    pub prenecklace-equal : c (y .letter) x ≡ Ordering·eq → Prenecklace c p (a ++ (x ∷ []))
+    prenecklace-equal o = record {
       positive = s .positive;
       within = omega (arith, length-append a (x ∷ []), s .within);
       repeats = letters ∙ o;
       greater = λ j h k. still j (omega (arith, s .within)) (s .greater j h k);
     }
 
-    -- a greater letter: all letters are the period
-    pub powers-greater : c (y .letter) x ≡ Ordering·lt → Powers c (length a + 1) (a ++ (x ∷ []))
-    powers-greater o = record {
+    -- a greater letter: the period is the whole word
+    pub prenecklace-greater : c (y .letter) x ≡ Ordering·lt → Prenecklace c (length a + 1) (a ++ (x ∷ []))
+    prenecklace-greater o = record {
       positive = omega arith;
       within = omega (arith, length-append a (x ∷ []));
       repeats = ap (upTo c (a ++ (x ∷ []))) (drop-of-length-le (a ++ (x ∷ [])) {i = length a + 1} (omega (arith, length-append a (x ∷ []))));
@@ -173,15 +175,15 @@ module _ {A : Type 0} {c : A → A → Ordering} (w : Lawful c) {p : ℕ} {a : L
             ∙ g
 
     -- a smaller letter: the rotation that begins after the period is less, whatever follows
-    pub powers-smaller : c (y .letter) x ≡ Ordering·gt → (e z : List A) → lex c (a ++ (x ∷ e)) (drop p (a ++ (x ∷ e)) ++ z) ≡ Ordering·gt
-    powers-smaller o e z =
+    pub prenecklace-smaller : c (y .letter) x ≡ Ordering·gt → (e z : List A) → lex c (a ++ (x ∷ e)) (drop p (a ++ (x ∷ e)) ++ z) ≡ Ordering·gt
+    prenecklace-smaller o e z =
         ap₂ (lex c)
         (ap (λ l. l ++ (x ∷ e)) (y .cut) ∙ append-assoc (drop p a) (y .letter ∷ y .later) (x ∷ e))
         (ap (λ l. l ++ z) (drop-append-le p a (x ∷ e) (s .within)) ∙ append-assoc (drop p a) (x ∷ e) z)
         ∙ lex-strip w (drop p a) (y .letter ∷ (y .later ++ (x ∷ e))) (x ∷ (e ++ z))
         ∙ lex-cons-gt c (y .letter) x (y .later ++ (x ∷ e)) (e ++ z) o
 
-  -- The end. The word is not greater than its rotation that begins after the period: then that rotation is the word itself.
+  -- where the rotation that begins after the period is not less, it is the word itself
   turned-same : atMost (lex c) a (drop p a ++ take p a) ≡ true → drop p a ++ take p a ≡ a
   turned-same h =
       let u = take p a in
@@ -197,7 +199,7 @@ module _ {A : Type 0} {c : A → A → Ordering} (w : Lawful c) {p : ℕ} {a : L
       ∙ stretch (length b) (length b) (omega arith) (omega arith) v [] (ap (drop (length b)) (y .cut) ∙ drop-at b v (length b) refl ∙ sym (append-nil v)) in
       ap (λ l. b ++ l) (atMost-anti (lex-lawful w) u v up low) ∙ sym (y .cut)
 
-  -- then turning by a period more changes nothing
+  -- and turning by a period more changes nothing
   turned-more : drop p a ++ take p a ≡ a → (j : ℕ) → p ≤ j → j ≤ length a → drop j a ++ take j a ≡ drop (j - p) a ++ take (j - p) a
   turned-more q j k h =
       let i = j - p in
@@ -211,6 +213,7 @@ module _ {A : Type 0} {c : A → A → Ordering} (w : Lawful c) {p : ℕ} {a : L
       (sym (ap (drop i) (sym q) ∙ drop-append-le i b u within))
       (sym (ap (take i) (sym q) ∙ take-append-le i b u within))
 
+  -- no rotation is less, in the same two parts
   least-inside : (j : ℕ) → j < p → atMost (lex c) a (drop j a ++ take j a) ≡ true
   least-inside zero k = eq-atMost (lex-lawful w) (sym (append-nil a))
   least-inside (suc j) k =
@@ -229,9 +232,9 @@ module _ {A : Type 0} {c : A → A → Ordering} (w : Lawful c) {p : ℕ} {a : L
       ap (atMost (lex c) a) (turned-more q j u h) ∙ least-turned q n (j - p) (omega (arith, s .positive)) (omega arith))
       (λ t. least-inside j (leb-false p j t))
 
-  -- no rotation is less if the one that begins after the period is not
-  pub powers-least : atMost (lex c) a (drop p a ++ take p a) ≡ true → (x y : List A) → a ≡ x ++ y → atMost (lex c) a (y ++ x) ≡ true
-  powers-least h x y q =
+  -- a prenecklace is a necklace if the rotation that begins after the period is not less
+  pub necklace : atMost (lex c) a (drop p a ++ take p a) ≡ true → (x y : List A) → a ≡ x ++ y → atMost (lex c) a (y ++ x) ≡ true
+  necklace h x y q =
       let n = length x in
       let d : drop n a ≡ y = ap (drop n) q ∙ drop-at x y n refl in
       let t : take n a ≡ x = ap (take n) q ∙ take-at x y n refl in
