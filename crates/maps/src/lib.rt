@@ -1,6 +1,7 @@
 // Tables: marking cycles, the code of a map with its points beside it, and the map of a code.
 use components::at_most;
 use components::compare_generated;
+use components::least_rotation;
 use lists::Order;
 use lists::compare;
 use lists::exchange;
@@ -183,11 +184,14 @@ fn at_most_between(s: &[u8], a: usize, b: usize) -> bool
     }
 }
 
-// Where the least rotation of the component begins.
+// Where the least rotation of the component begins. One pass where the component is least already.
 fn least_start(s: &[u8]) -> usize
     requires { ⌜ Held (now s) ⌝ }
     ensures { λ r. ⌜ ((c : Component) → now (s .entry) ≡ flat c → LeastStart c r) ⌝ }
 {
+    if least_rotation(s) {
+        return 0;
+    }
     let mut best = 0;
     let mut p = 0;
     while p < s.len() {
