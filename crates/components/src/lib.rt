@@ -86,8 +86,9 @@ pub fn at_most_turned(s: &[u8], p: usize) -> bool
     }
 }
 
-// No rotation is less [document 004, Definition 2]. One pass: the trees so far are a beginning of a power of those in their first `period` points, and
-// the tree one period before tells whether the next tree keeps that up.
+// No rotation is less [document 004, Definition 2]. One pass: the trees so far are a prenecklace, that is, a beginning of a power of the trees in their
+// first `period` points. The next tree is held against the tree one period before: if it is less, a rotation is less; if it is greater, all trees so
+// far are the period. At the end the power may be cut off, so the rotation by one period is tested.
 pub fn least_rotation(s: &[u8]) -> bool
     requires { ⌜ Held (now s) ⌝ }
     ensures { λ r. ⌜ ((c : Component) → now (s .entry) ≡ flat c → r ≡ each (atMost compareComponent c) (rotations c)) ⌝ }
