@@ -13,5 +13,6 @@ pub mod Successor
 pub mod Scan
 pub mod Walks
 pub mod Turning
+pub mod OnePass
 pub mod Climbing
 pub mod Tracing

@@ -1,22 +1,22 @@
--- Testing every rotation of a component: comparing a list with itself turned to begin at a place, and the walk over the places where trees begin.
+-- Comparing a component with itself turned to begin at a place, and what a valid component is.
 use mathlib.Core.Path.{_≡_, refl, ap, ap₂, sym, _∙_}
 use mathlib.Core.Bool.{true, false}
-use mathlib.Core.List.{List, [], _∷_, _++_, append-assoc, append-nil}
-use Prim.Native.Nat.{ℕ, _+_, _-_, _≤_, compare, Ordering·lt, Ordering·eq, Ordering·gt}
+use mathlib.Core.List.{List, [], _∷_, _++_}
+use Prim.Native.Nat.{ℕ, _-_, _≤_, compare, Ordering·lt, Ordering·eq, Ordering·gt}
 use native.Mathlib.Omega.{arith}
 use lib.Dec.{isLe}
-use lib.ListN.{length, getD, take, drop, length-drop, take-append-drop}
+use lib.ListN.{length, take, drop, length-drop, take-append-drop}
 use lib.Seq.{take-at, drop-at, take-all, length-take-le}
 use Rattle.lists.specs.Order.{lex, then, atMost}
 use Rattle.lists.specs.Select.{each}
 use Rattle.lists.proofs.Lex.{lex-append}
 use Rattle.lists.proofs.Tests.{is-false, no-both}
 use Rattle.patterns.specs.Tree.{validTree}
-use Rattle.patterns.specs.Component.{Component, flat, turns, rotations, compareComponent, validComponent}
+use Rattle.patterns.specs.Component.{Component, points, flat, rotations, compareComponent, validComponent}
 use Rattle.patterns.proofs.Trees.{length-flat, flat-append, compareComponent-flat}
 use Rattle.patterns.proofs.Rotations.{valid-trees}
 use Rattle.components.proofs.Keys.{valid-if-least}
-use Rattle.components.proofs.Walks.{Along, Next, along-parts, along-step, along-end, along-whole, no-trees}
+use Rattle.components.proofs.Walks.{no-trees}
 
 -- Numbers.
 
@@ -46,59 +46,15 @@ module _ (s : List ℕ) (p : ℕ) (h : p ≤ length s) where
       → atMost (lex compare) (take (length s - (length s - p)) (drop (length s - p) s)) (take p s) ≡ atMost (lex compare) s (drop p s ++ take p s)
   turned-equal e = sym (ap isLe turned ∙ rw e)
 
--- Trees.
-
--- no rotation of the whole is less exactly if none of those from the place on is
-abbrev pub Turns : Component → Component → Type 0
-Turns a r = each (atMost compareComponent (a ++ r)) (turns (length r) (r ++ a)) ≡ each (atMost compareComponent (a ++ r)) (rotations (a ++ r))
-
-pub turns-start : (c : Component) → Turns [] c
-turns-start c = ap (λ l. each (atMost compareComponent c) (turns (length c) l)) (append-nil c)
-
-module _ {s : List ℕ} {at : ℕ} (w : Along s at Turns) where
-  -- the numbers turned to begin at the place, and the trees turned
-  turned-trees : atMost (lex compare) s (drop at s ++ take at s) ≡ atMost compareComponent (w .ahead ++ w .rest) (w .rest ++ w .ahead)
-  turned-trees =
-      let a = flat (w .ahead) in
-      let r = flat (w .rest) in
-      let h : length a ≡ at = length-flat (w .ahead) ∙ sym (w .place) in
-      let d : drop at s ≡ r = ap (drop at) (along-parts w) ∙ drop-at a r at h in
-      let t : take at s ≡ a = ap (take at) (along-parts w) ∙ take-at a r at h in
-      ap isLe
-      (ap₂ (lex compare) (w .cut) (ap₂ _++_ d t ∙ sym (flat-append (w .rest) (w .ahead)))
-      ∙ sym (compareComponent-flat (w .ahead ++ w .rest) (w .rest ++ w .ahead)))
-
-  -- a rotation is less
-  pub turns-fails : (n : Next s at (w .rest)) → atMost (lex compare) s (drop at s ++ take at s) ≡ false
-      → (c : Component) → s ≡ flat c → false ≡ each (atMost compareComponent c) (rotations c)
-  turns-fails n e c q =
-      let test = atMost compareComponent (w .ahead ++ w .rest) in
-      let f : test ((n .tree ∷ n .later) ++ w .ahead) ≡ false = ap (λ l. test (l ++ w .ahead)) (sym (n .is)) ∙ sym turned-trees ∙ e in
-      let z : each test (turns (length (w .rest)) (w .rest ++ w .ahead)) ≡ false =
-      ap (λ l. each test (turns (length l) (l ++ w .ahead))) (n .is) ∙ rw f in
-      sym z ∙ w .kept ∙ ap (λ d. each (atMost compareComponent d) (rotations d)) (along-whole w c q)
-
-  -- this rotation is not less
-  pub turns-step : (n : Next s at (w .rest)) → atMost (lex compare) s (drop at s ++ take at s) ≡ true → Along s (at + getD s at 0) Turns
-  turns-step n e =
-      let a = w .ahead in
-      let t = n .tree in
-      let later = n .later in
-      let test = atMost compareComponent (a ++ w .rest) in
-      let whole : (a ++ (t ∷ [])) ++ later ≡ a ++ w .rest = append-assoc a (t ∷ []) later ∙ sym (ap (λ l. a ++ l) (n .is)) in
-      let f : test ((t ∷ later) ++ a) ≡ true = ap (λ l. test (l ++ a)) (sym (n .is)) ∙ sym turned-trees ∙ e in
-      let z : each test (turns (length (w .rest)) (w .rest ++ a)) ≡ each test (turns (length later) ((later ++ a) ++ (t ∷ []))) =
-      ap (λ l. each test (turns (length l) (l ++ a))) (n .is) ∙ rw f in
-      along-step w n Turns
-      (ap (λ d. each (atMost compareComponent d) (turns (length later) (later ++ (a ++ (t ∷ []))))) whole
-      ∙ ap (λ l. each test (turns (length later) l)) (sym (append-assoc later a (t ∷ [])))
-      ∙ sym z
-      ∙ w .kept
-      ∙ ap (λ d. each (atMost compareComponent d) (rotations d)) (sym whole))
-
-  -- no rotation was less
-  pub turns-end : length s ≤ at → (c : Component) → s ≡ flat c → true ≡ each (atMost compareComponent c) (rotations c)
-  turns-end h c e = along-end w h c e ∙ ap (λ d. each (atMost compareComponent d) (rotations d)) (append-nil c)
+-- Trees: a component cut in two, its numbers and its trees turned alike.
+pub turned-trees : (s : List ℕ) (a r : Component) (at : ℕ) → s ≡ flat (a ++ r) → at ≡ points a
+    → atMost (lex compare) s (drop at s ++ take at s) ≡ atMost compareComponent (a ++ r) (r ++ a)
+turned-trees s a r at e h =
+    let parts : s ≡ flat a ++ flat r = e ∙ flat-append a r in
+    let l : length (flat a) ≡ at = length-flat a ∙ sym h in
+    let d : drop at s ≡ flat r = ap (drop at) parts ∙ drop-at (flat a) (flat r) at l in
+    let t : take at s ≡ flat a = ap (take at) parts ∙ take-at (flat a) (flat r) at l in
+    ap isLe (ap₂ (lex compare) e (ap₂ _++_ d t ∙ sym (flat-append r a)) ∙ sym (compareComponent-flat (a ++ r) (r ++ a)))
 
 -- What a valid component is: some numbers, valid trees, and no rotation that is less.
 pub valid-not-empty : (s : List ℕ) → length s ≡ 0 → (c : Component) → s ≡ flat c → false ≡ validComponent c

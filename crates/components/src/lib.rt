@@ -86,19 +86,30 @@ pub fn at_most_turned(s: &[u8], p: usize) -> bool
     }
 }
 
-// No rotation is less [document 004, Definition 2].
+// No rotation is less [document 004, Definition 2]. One pass: the trees so far are a prenecklace, that is, a beginning of a power of the trees in their
+// first `period` points. The next tree is held against the tree one period before: if it is less, a rotation is less; if it is greater, all trees so
+// far are the period. At the end the power may be cut off, so the rotation by one period is tested.
 pub fn least_rotation(s: &[u8]) -> bool
     requires { ⌜ Held (now s) ⌝ }
     ensures { λ r. ⌜ ((c : Component) → now (s .entry) ≡ flat c → r ≡ each (atMost compareComponent c) (rotations c)) ⌝ }
 {
-    let mut at = 0;
-    while at < s.len() {
-        if !at_most_turned(s, at) {
-            return false;
-        }
-        at += s[at] as usize;
+    if s.len() == 0 {
+        return true;
     }
-    true
+    let mut period = s[0] as usize;
+    let mut at = period;
+    while at < s.len() {
+        let back = at - period;
+        let old = back + s[back] as usize;
+        let end = at + s[at] as usize;
+        match compare(&s[back..old], &s[at..end]) {
+            Order::Greater => return false,
+            Order::Less => period = end,
+            Order::Equal => {}
+        }
+        at = end;
+    }
+    at_most_turned(s, period)
 }
 
 // The component is a valid code [document 004, Definition 2].

@@ -15,3 +15,4 @@ pub mod RisingPlaces
 pub mod Gathering
 pub mod Neighbours
 pub mod Filled
+pub mod Necklace

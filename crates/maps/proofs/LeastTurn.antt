@@ -9,13 +9,15 @@ use lib.ListN.{length, getD, take, drop, length-drop, take-append-drop}
 use lib.Seq.{take-all, drop-drop, take-append-add, length-take-le, take-at, drop-at}
 use borrow.Author.Tests.{ltb-true, ltb-false}
 use Rattle.lists.specs.Order.{lex, then, atMost}
+use Rattle.lists.specs.Select.{each}
 use Rattle.lists.proofs.Lex.{lex-append}
-use Rattle.lists.proofs.Tests.{by-test, either}
+use Rattle.lists.proofs.Tests.{by-test, either, each-member}
+use Rattle.lists.proofs.Members.{in-list}
 use Rattle.lists.proofs.Comparison.{atMost-self, atMost-turned, atMost-trans}
 use Rattle.patterns.specs.Tree.{Tree, size}
-use Rattle.patterns.specs.Component.{Component, points, flat, compareComponent}
+use Rattle.patterns.specs.Component.{Component, points, flat, compareComponent, rotations, nonempty}
 use Rattle.patterns.proofs.Trees.{size-positive, length-flat, flat-append, points-append, compareComponent-lawful, compareComponent-flat}
-use Rattle.patterns.proofs.Rotations.{cuts}
+use Rattle.patterns.proofs.Rotations.{cuts, rotation-append}
 use Rattle.components.proofs.Walks.{Along, Next, along-step, along-end, no-trees}
 use Rattle.maps.specs.Writing.{LeastStart}
 
@@ -212,3 +214,16 @@ module _ {s : List ℕ} {at best : ℕ} (w : Along s at (Best best)) where
         place = k .place;
         least = best-of-all k;
       }
+
+-- a component of which no rotation is less is best as it is
+least-of-all : (c : Component) → each (atMost compareComponent c) (rotations c) ≡ true → (u v : Component) → c ≡ u ++ v
+    → atMost compareComponent (c ++ []) (v ++ u) ≡ true
+least-of-all [] t u v q =
+    let z : v ++ u ≡ [] = no-trees (v ++ u) (omega (arith, points-append v u, ap points q, points-append u v)) in
+    ap (atMost compareComponent []) z ∙ atMost-self compareComponent-lawful []
+least-of-all (x ∷ c) t u v q =
+    ap (λ l. atMost compareComponent l (v ++ u)) (append-nil (x ∷ c))
+    ∙ each-member (atMost compareComponent (x ∷ c)) t (in-list (ap rotations (sym q)) (rotation-append u v (ap nonempty (sym q))))
+
+pub least-already : (c : Component) → each (atMost compareComponent c) (rotations c) ≡ true → LeastStart c 0
+least-already c t = record { front = []; back = c; cut = refl; place = refl; least = least-of-all c t }

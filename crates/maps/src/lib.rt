@@ -2,6 +2,7 @@
 use bytes::copy;
 use components::at_most;
 use components::compare_generated;
+use components::least_rotation;
 use lists::Order;
 use lists::compare;
 use lists::exchange;
@@ -222,11 +223,14 @@ fn at_most_between(s: &[u8], a: usize, b: usize) -> bool
     }
 }
 
-// Where the least rotation of the component begins.
+// Where the least rotation of the component begins. One pass where the component is least already.
 fn least_start(s: &[u8]) -> usize
     requires { ⌜ Held (now s) ⌝ }
     ensures { λ r. ⌜ ((c : Component) → now (s .entry) ≡ flat c → LeastStart c r) ⌝ }
 {
+    if least_rotation(s) {
+        return 0;
+    }
     let mut best = 0;
     let mut p = 0;
     while p < s.len() {

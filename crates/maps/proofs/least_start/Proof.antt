@@ -4,7 +4,7 @@ use mathlib.Core.Path.{sym, _∙_}
 use Prim.Native.Nat.{_-_}
 use lib.ListN.{length}
 use Rattle.components.proofs.Walks.{Along, along-start, along-next}
-use Rattle.maps.proofs.LeastTurn.{Best, best-start, best-within, best-kept, best-moved, best-end}
+use Rattle.maps.proofs.LeastTurn.{Best, best-start, best-within, best-kept, best-moved, best-end, least-already}
 use native.Mathlib.Omega.{arith}
 use borrow.Author.Needs.{needs}
 use Rattle.maps.proofs.least_start.Statement.{statement}
@@ -16,8 +16,18 @@ Inv-loop s best₀ p₀ best p = Along s p (Best best)
 abbrev μ-loop : tie.MeasureT-loop
 μ-loop s best₀ p₀ best p = length s - p
 
+least-rotation-requires : tie.Need-least-rotation-requires Inv-loop μ-loop
+least-rotation-requires c κs = search needs
+
+returns : tie.Need-returns Inv-loop μ-loop
+returns c =
+    let r = c .before .least-rotation in
+    λ d e. least-already d (sym (r .ensures d e) ∙ c .if1 .taken)
+
 loop-holds : tie.Need-loop-holds Inv-loop μ-loop
-loop-holds c = along-start (c .before .pre) (Best 0) (best-start (c .before .pre .trees))
+loop-holds c =
+    let h = c .before .before .before .pre in
+    along-start h (Best 0) (best-start (h .trees))
 
 at-most-between-requires : tie.Need-at-most-between-requires Inv-loop μ-loop
 at-most-between-requires c κs = (best-within (c .before .loop .inv), omega arith)
@@ -46,10 +56,10 @@ loop-again c =
     ⊎-elim
     (λ v. rw (v .1) (best-moved w n (sym (r .ensures) ∙ not-of-true (r .result) (v .0 .taken))))
     (λ v. rw (v .1) (best-kept w n (sym (r .ensures) ∙ not-of-false (r .result) (v .0 .left))))
-    (c .before .if1 .came)
+    (c .before .if2 .came)
 
-returns : tie.Need-returns Inv-loop μ-loop
-returns c = best-end (c .before .loop .inv) (omega arith)
+returns-2 : tie.Need-returns-2 Inv-loop μ-loop
+returns-2 c = best-end (c .before .loop .inv) (omega arith)
 
 pub least-start-spec : {M : Type 1} → statement M
 least-start-spec =
@@ -57,6 +67,8 @@ least-start-spec =
     (tie.spec
     Inv-loop
     μ-loop
+    least-rotation-requires
+    returns
     loop-holds
     at-most-between-requires
     shared-slice-read-p
@@ -64,4 +76,4 @@ least-start-spec =
     add-p
     loop-less
     loop-again
-    returns)
+    returns-2)
