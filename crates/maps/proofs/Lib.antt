@@ -20,6 +20,7 @@ pub mod Theorems
 pub mod CensusTheory
 pub mod Marking
 pub mod Marks
+pub mod Walking
 pub mod Standing
 pub mod Imaging
 pub mod CycleImages

@@ -25,7 +25,7 @@ ghost use Rattle.components.specs.Held.{Held};
 ghost use Rattle.maps.specs.Plants.{plantAt, plantsAlong};
 ghost use Rattle.maps.specs.Writing.{pointsBefore, RowStands, Inserts, TreeAsked, CycleAsked, Planted, LeastStart, ComponentWritten};
 ghost use Rattle.maps.specs.Systems.{BothValid, PlaceAsked, PlaceFound, InsertAsked, ComponentInserted, SystemAsked, SystemWritten};
-ghost use Rattle.maps.specs.Marks.{iterate, PointOf, MarksAsked, Marked, MarkedPoint};
+ghost use Rattle.maps.specs.Marks.{iterate, lengthLed, PointOf, MarksAsked, Marked, MarkedPoint};
 
 // The point that is reached from `x` in as many steps as there are points.
 fn far_point(f: &[u8], x: usize) -> usize
@@ -66,24 +66,32 @@ fn hangs_at(f: &[u8], marks: &[u8], x: usize, y: usize) -> bool
     marks[y] == 0
 }
 
+// The length of the cycle whose least point is `x`, and 0 where there is none.
+pub fn length_led(f: &[u8], marks: &[u8], x: usize) -> usize
+    requires { ⌜ MarkedPoint (now f) (now marks) x ⌝ }
+    ensures { λ r. ⌜ r ≡ lengthLed (length (now (f .entry))) (image (now (f .entry))) x ⌝ }
+{
+    if marks[x] == 0 {
+        return 0;
+    }
+    let mut length = 1;
+    let mut y = f[x] as usize;
+    while y != x {
+        if y < x {
+            return 0;
+        }
+        y = f[y] as usize;
+        length += 1;
+    }
+    length
+}
+
 // `x` is on a cycle and is its least point.
-pub fn leads_cycle(f: &[u8], marks: &[u8], x: usize) -> bool
+fn leads_cycle(f: &[u8], marks: &[u8], x: usize) -> bool
     requires { ⌜ MarkedPoint (now f) (now marks) x ⌝ }
     ensures { λ r. ⌜ r ≡ leadsCycle (length (now (f .entry))) (image (now (f .entry))) x ⌝ }
 {
-    if marks[x] == 0 {
-        return false;
-    }
-    let mut y = x;
-    let mut i = 0;
-    while i < f.len() {
-        y = f[y] as usize;
-        if y < x {
-            return false;
-        }
-        i += 1;
-    }
-    true
+    0 < length_led(f, marks, x)
 }
 
 // How many points the trees of `row` have that stand before the first one that `tree` does not exceed.
