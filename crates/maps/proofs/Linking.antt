@@ -1,5 +1,5 @@
 -- Linking the points that hang at a point, from the least point of the table on.
-use mathlib.Core.Path.{_≡_, refl, ap, sym, _∙_}
+use mathlib.Core.Path.{_≡_, ap, sym, _∙_}
 use mathlib.Core.Bool.{true, false}
 use mathlib.Core.List.{List, _++_}
 use Prim.Native.Nat.{ℕ, zero, suc, _+_, _≤_, _<_}
@@ -42,7 +42,7 @@ module _ (f : List ℕ) (x : ℕ) where
       (λ t. let q : k ≡ z = omega (arith, last-take k t) in rw q at t)
       (λ t. last-hangs k z (sym (last-skip k t) ∙ e))
 
--- what hangs at x goes there and is on no cycle
+-- a point hangs at its image, unless it is on a cycle, and nowhere else
 hangs-image : (f : List ℕ) (x y : ℕ) → hangsAt (length f) (image f) x y ≡ true → image f y ≡ x
 unfolding hangsAt
 hangs-image f x y t =

@@ -79,7 +79,7 @@ pub record SystemAsked (f marks sizes numbers labelled : List ℕ) : Type 0 wher
   pub marked : Marked f marks
   pub sizes-room : length sizes ≡ length f
 
--- and with its links
+-- the same, with the links of the table
 pub record ComponentsAsked (f marks last before sizes numbers labelled : List ℕ) : Type 0 where
   pub asked : SystemAsked f marks sizes numbers labelled
   pub links : Links f (length f) last before

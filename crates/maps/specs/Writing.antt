@@ -59,7 +59,7 @@ pub record TreeAsked (f last before : List ℕ) (x left : ℕ) (numbers labelled
   pub bounded : size (shape (plantAt f x)) ≤ left
   pub room : at + left ≤ length f
 
--- for some table with these links
+-- the same, of some table that has these links
 pub record TreeOfLinks (last before : List ℕ) (x left : ℕ) (numbers labelled : List ℕ) (at : ℕ) : Type 0 where
   pub of : List ℕ
   pub asked : TreeAsked of last before x left numbers labelled at

@@ -11,7 +11,7 @@ ghost use mathlib.Core.Bool.{cond};
 ghost use mathlib.Core.List.{List, [], _∷_, _++_, map};
 ghost use Prim.Native.Nat.{ℕ, _+_, _≤_, _<_, compare as compareNumbers};
 ghost use lib.Dec.{ltb};
-ghost use lib.ListN.{length, getD, take, drop};
+ghost use lib.ListN.{length, take, drop};
 ghost use Rattle.lists.specs.Order.{lex, atMost};
 ghost use Rattle.lists.specs.Select.{gather};
 ghost use Rattle.patterns.specs.Tree.{Tree, code};
