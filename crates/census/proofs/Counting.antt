@@ -18,7 +18,7 @@ use Rattle.patterns.specs.Table.{cycleFrom, leadsCycle, leaders}
 use Rattle.patterns.specs.Census.{cycleLengths, cyclesOf}
 use Rattle.maps.proofs.Orbits.{orbit-length}
 use Rattle.maps.proofs.Leaders.{cycle-period, leads-onCycle}
-use Rattle.census.specs.Counts.{lengthLed}
+use Rattle.maps.specs.Marks.{lengthLed}
 
 -- a number stands at most as often as the list is long
 times-length : (l : ℕ) (m : List ℕ) → times l m ≤ length m

@@ -4,5 +4,4 @@ pub mod Counting
 pub mod Listing
 pub mod Maxima
 pub mod Points
-pub mod Walking
 pub mod Stepping

@@ -1,16 +1,12 @@
 -- Counting cycles by their length: what is asked for, and what the counts are.
 use mathlib.Core.Path.{_≡_}
-use mathlib.Core.Bool.{true, cond}
+use mathlib.Core.Bool.{true}
 use mathlib.Core.List.{List}
 use Prim.Native.Nat.{ℕ, _≤_, _<_, _+_}
 use lib.ListN.{length, getD, replicate}
-use Rattle.patterns.specs.Table.{image, isTable, cycleFrom, leadsCycle}
+use Rattle.patterns.specs.Table.{image, isTable}
 use Rattle.patterns.specs.Census.{cyclesOf}
 use Rattle.maps.specs.Marks.{Marked}
-
--- the length of the cycle whose least point is x, and 0 where there is none
-unfoldable pub lengthLed : ℕ → (ℕ → ℕ) → ℕ → ℕ
-lengthLed n f x = cond (leadsCycle n f x) (length (cycleFrom n f x)) 0
 
 -- a table f of at most 200 points with its marks, and a 0 for every number from 0 to the number of points
 pub record Blank (f marks counts : List ℕ) : Type 0 where

@@ -8,7 +8,7 @@ ghost use lib.ListN.{length, replicate};
 ghost use Rattle.patterns.specs.Table.{image, isTable};
 ghost use Rattle.patterns.specs.Census.{stepsToCycle, height as heightOf, greatest as greatestOf};
 ghost use Rattle.maps.specs.Marks.{Marked, MarkedPoint};
-ghost use Rattle.census.specs.Counts.{lengthLed, Blank, Counts};
+ghost use Rattle.census.specs.Counts.{Blank, Counts};
 ghost use Rattle.census.specs.Rows.{Room, Listed, CensusOf};
 
 // Row i, i below `rows`: `counts[i]` cycles have `lengths[i]` points.
@@ -20,26 +20,6 @@ pub struct Rows {
     pub longest: usize,
 }
 
-// The length of the cycle whose least point is `x`, and 0 where there is none.
-fn length_led(f: &[u8], marks: &[u8], x: usize) -> usize
-    requires { ⌜ MarkedPoint (now f) (now marks) x ⌝ }
-    ensures { λ r. ⌜ r ≡ lengthLed (length (now (f .entry))) (image (now (f .entry))) x ⌝ }
-{
-    if marks[x] == 0 {
-        return 0;
-    }
-    let mut length = 1;
-    let mut y = f[x] as usize;
-    while y != x {
-        if y < x {
-            return 0;
-        }
-        y = f[y] as usize;
-        length += 1;
-    }
-    length
-}
-
 // Counts the cycles by their length: `counts[l]` for l from 1 on. `counts[0]` counts the points that lead no cycle.
 fn count_cycles(f: &[u8], marks: &[u8], counts: &mut [u8])
     requires { ⌜ Blank (now f) (now marks) (now counts) ⌝ }
@@ -47,7 +27,7 @@ fn count_cycles(f: &[u8], marks: &[u8], counts: &mut [u8])
 {
     let mut x = 0;
     while x < f.len() {
-        let l = length_led(f, marks, x);
+        let l = maps::length_led(f, marks, x);
         counts[l] += 1;
         x += 1;
     }

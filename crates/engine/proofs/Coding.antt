@@ -49,10 +49,10 @@ module _ {f : List ℕ} (t : Table f) where
               record {
                 table = t .table;
                 small = t .small;
-                marked = rw (take-at marks rest (length f) (k .same)) k;
                 numbers-room = places numbers n;
                 labels-room = l;
               };
+          marked = rw (take-at marks rest (length f) (k .same)) k;
           sizes-room = places sizes s;
         }
 

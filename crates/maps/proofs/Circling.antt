@@ -43,7 +43,7 @@ pub record Circling (f : List ℕ) (x at : ℕ) (d e : List ℕ) (y end : ℕ) (
   pub here : y < length f
   pub planted : Planted (map (plantAt f) done) at d e end numbers labelled
 
-module _ {f marks : List ℕ} {x at : ℕ} {d e : List ℕ} (a : CycleAsked f marks x d e at) where
+module _ {f last before : List ℕ} {x at : ℕ} {d e : List ℕ} (a : CycleAsked f last before x d e at) where
   -- the point x itself, and the others
   round : (p : ℕ) × (cycleFrom (length f) (image f) x ≡ x ∷ orbit (image f) p x) × Walk (image f) x (image f x) (orbit (image f) p x)
   round =
@@ -58,11 +58,12 @@ module _ {f marks : List ℕ} {x at : ℕ} {d e : List ℕ} (a : CycleAsked f ma
       ∙ points-plants (map (plantAt f) done) (map (plantAt f) rest)
 
   -- the tree at x may be asked for
-  pub circling-first : TreeAsked f marks x (length f - at) d e at
+  pub circling-first : TreeAsked f last before x (length f - at) d e at
   circling-first =
       let s = sum (x ∷ []) (orbit (image f) (round .0) x) (round .1) in
       record {
         prepared = a .prepared;
+        links = a .links;
         here = a .here;
         bounded = omega (arith, a .room);
         room = omega (arith, a .room);
@@ -107,17 +108,17 @@ module _ {f marks : List ℕ} {x at : ℕ} {d e : List ℕ} (a : CycleAsked f ma
       fits = omega (arith, c .planted .ends, sum (c .done) (y ∷ later) split, a .room)
 
       -- the tree at y may be asked for
-      pub circling-asked : TreeAsked f marks y (length f - end) numbers labelled end
+      pub circling-asked : TreeAsked f last before y (length f - end) numbers labelled end
       circling-asked =
           record {
             prepared =
                 record {
                   table = a .prepared .table;
                   small = a .prepared .small;
-                  marked = a .prepared .marked;
                   numbers-room = circling-numbers;
                   labels-room = circling-labels;
                 };
+            links = a .links;
             here = c .here;
             bounded = omega (arith, fits);
             room = omega (arith, fits);

@@ -21,6 +21,7 @@ use Rattle.patterns.proofs.Trees.{length-flat}
 use Rattle.patterns.proofs.Rotations.{rotated-perm, valid-nonempty}
 use Rattle.written.specs.Putting.{placed}
 use Rattle.maps.specs.Plants.{Plant, shape, root, labels, shapes, compareShapes, plantsAlong, joined}
+use Rattle.maps.specs.Links.{Links}
 use Rattle.maps.specs.Writing.{Planted, CycleAsked, ComponentWritten}
 use Rattle.maps.specs.Systems.{InsertAsked, ComponentInserted, SystemAsked, SystemWritten}
 use Rattle.maps.proofs.Pictures.{Arrows, allLabels, Picture}
@@ -148,17 +149,17 @@ module _ {f marks d e : List ℕ} {x end m : ℕ} {sizes₀ sizes numbers labell
         )
 
     -- the component at z may be asked for
-    pub collecting-asked : CycleAsked f marks z numbers labelled end
-    collecting-asked =
+    pub collecting-asked : {last before : List ℕ} → Links f (length f) last before → CycleAsked f last before z numbers labelled end
+    collecting-asked l =
         record {
           prepared =
               record {
                 table = a .prepared .table;
                 small = a .prepared .small;
-                marked = a .prepared .marked;
                 numbers-room = collecting-numbers;
                 labels-room = collecting-labels;
               };
+          links = l;
           here = omega (arith, g .passed);
           on = on;
           room = room;

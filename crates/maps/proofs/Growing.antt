@@ -1,5 +1,5 @@
 -- Writing the tree at a point: its branches, from the greatest point that hangs there to the least, each inserted among those written before.
-use mathlib.Core.Path.{_≡_, ap, ap₂, sym, subst, _∙_}
+use mathlib.Core.Path.{_≡_, refl, ap, ap₂, sym, subst, _∙_}
 use mathlib.Core.Bool.{Bool, true, false, cond}
 use mathlib.Core.List.{List, [], _∷_, _++_, map, append-nil, append-assoc}
 use Prim.Native.Nat.{ℕ, zero, suc, _+_, _-_, _≤_, _<_}
@@ -10,6 +10,7 @@ use lib.ListN.{length, getD, take, drop, set}
 use lib.Seq.{take-suc, set-at, length-take-le}
 use Rattle.lists.specs.Sort.{insert, sort}
 use Rattle.lists.specs.Select.{keep, gather, range, total}
+use Rattle.lists.proofs.Tests.{by-test}
 use Rattle.lists.proofs.Permute.{total-append, total-map, member-total}
 use Rattle.lists.proofs.Sorting.{sort-total}
 use Rattle.lists.proofs.Members.{keep-append}
@@ -20,8 +21,10 @@ use Rattle.patterns.specs.Table.{image, hangsAt, hanging}
 use Rattle.patterns.proofs.Trees.{size-positive, size-graft, code-branches, branches-graft, length-flat}
 use Rattle.written.specs.Putting.{placed}
 use Rattle.maps.specs.Plants.{Plant, tip, shape, root, labels, plantOn, comparePlant, plantTo, plantAt}
+use Rattle.maps.specs.Links.{lastBelow}
 use Rattle.maps.specs.Writing.{Planted, Prepared, TreeAsked, RowStands, Inserts}
 use Rattle.lists.proofs.Gathering.{map-same}
+use Rattle.maps.proofs.Linking.{last-skip, last-take, last-bound, last-hangs}
 use Rattle.maps.proofs.PlantAt.{plantOn-shape, plantOn-labels}
 use Rattle.maps.proofs.Shown.{length-labels}
 use Rattle.maps.proofs.Standing.{stands-left, stands-path}
@@ -132,20 +135,39 @@ module _ (f : List ℕ) (x : ℕ) where
         branches-bound z (omega arith) k,
       )
 
--- the branches from y on are written, and end at `end`
+  -- between a point and the one that its link leads to none hangs at x
+  pub branches-last : (k : ℕ) → k ≤ length f → branchesFrom (lastBelow f x k) ≡ branchesFrom k
+  unfolding lastBelow
+  branches-last zero h = refl
+  branches-last (suc k) h =
+      by-test (hangsAt (length f) (image f) x k)
+      (λ t. ap branchesFrom (last-take f x k t))
+      (λ t. ap branchesFrom (last-skip f x k t) ∙ branches-last k (omega arith) ∙ branches-skip (suc k) k (sym (add-one k)) h t)
+
+-- the branches from y on are written, and end at `end`; the point before y, if any, hangs at x
 pub record Growing (f : List ℕ) (x at : ℕ) (d e : List ℕ) (y end : ℕ) (numbers labelled : List ℕ) : Type 0 where
   pub passed : y ≤ length f
+  pub hangs : (z : ℕ) → y ≡ z + 1 → hangsAt (length f) (image f) x z ≡ true
   pub planted : Planted (branchesFrom f x y) (at + 1) d e end numbers labelled
 
-pub growing-start : (f : List ℕ) (x at : ℕ) (d e : List ℕ) → Growing f x at d e (length f) (at + 1) d e
-growing-start f x at d e =
+-- the branches from k on are written: a link leads to the next one
+growing-link : {f : List ℕ} {x at : ℕ} {d e : List ℕ} (k : ℕ) {y end : ℕ} {numbers labelled : List ℕ} → k ≤ length f → y ≡ lastBelow f x k
+    → Planted (branchesFrom f x k) (at + 1) d e end numbers labelled → Growing f x at d e y end numbers labelled
+growing-link {f} {x} {at} {d} {e} k {y} {end} {numbers} {labelled} h q p =
     record {
-      passed = omega arith;
-      planted = subst (λ us. Planted us (at + 1) d e (at + 1) d e) (sym (branches-none f x (length f) (omega arith))) (planted-none (at + 1) d e);
+      passed = omega (arith, last-bound f x k);
+      hangs = λ z r. last-hangs f x k z (sym q ∙ r);
+      planted = subst (λ us. Planted us (at + 1) d e end numbers labelled) (sym (ap (branchesFrom f x) q ∙ branches-last f x k h)) p;
     }
 
-module _ {f marks : List ℕ} {x left at : ℕ} {d e : List ℕ} {y end : ℕ} {numbers labelled : List ℕ}
-    (a : TreeAsked f marks x left d e at) (g : Growing f x at d e y end numbers labelled) where
+pub growing-start : {f last before : List ℕ} {x left at : ℕ} {d e : List ℕ} → TreeAsked f last before x left d e at
+    → Growing f x at d e (getD last x 0) (at + 1) d e
+growing-start {f} {last} {before} {x} {left} {at} {d} {e} a =
+    growing-link (length f) (omega arith) (a .links .last-are x (a .here))
+    (subst (λ us. Planted us (at + 1) d e (at + 1) d e) (sym (branches-none f x (length f) (omega arith))) (planted-none (at + 1) d e))
+
+module _ {f last before : List ℕ} {x left at : ℕ} {d e : List ℕ} {y end : ℕ} {numbers labelled : List ℕ}
+    (a : TreeAsked f last before x left d e at) (g : Growing f x at d e y end numbers labelled) where
   whole : plantSize (plantAt f x) ≤ length f
   whole = omega (arith, a .bounded, a .room)
 
@@ -162,38 +184,34 @@ module _ {f marks : List ℕ} {x left at : ℕ} {d e : List ℕ} {y end : ℕ} {
   pub growing-labels : length labelled ≡ length f
   growing-labels = planted-labels (g .planted) (omega (arith, growing-bound, a .prepared .labels-room)) ∙ a .prepared .labels-room
 
-  pub growing-prepared : Prepared f marks numbers labelled
+  pub growing-prepared : Prepared f numbers labelled
   growing-prepared =
       record {
         table = a .prepared .table;
         small = a .prepared .small;
-        marked = a .prepared .marked;
         numbers-room = growing-numbers;
         labels-room = growing-labels;
       }
 
-  -- z does not hang at x
-  pub growing-skip : (z : ℕ) → y ≡ z + 1 → hangsAt (length f) (image f) x z ≡ false → Growing f x at d e z end numbers labelled
-  growing-skip z q t =
-      record {
-        passed = omega (arith, g .passed);
-        planted = subst (λ us. Planted us (at + 1) d e end numbers labelled) (sym (branches-skip f x y z q (g .passed) t)) (g .planted);
-      }
-
-  module _ (z : ℕ) (q : y ≡ z + 1) (t : hangsAt (length f) (image f) x z ≡ true) where
+  module _ (z : ℕ) (q : y ≡ z + 1) where
     fits : points (map shape (branchesFrom f x y)) + plantSize (plantAt f z) < plantSize (plantAt f x)
-    fits = branch-bound f x y z q (g .passed) t whole
+    fits = branch-bound f x y z q (g .passed) (g .hangs z q) whole
 
     -- the tree at z may be asked for
-    pub growing-asked : TreeAsked f marks z (left - (end - at)) numbers labelled end
+    pub growing-asked : TreeAsked f last before z (left - (end - at)) numbers labelled end
     growing-asked =
         let p = g .planted .ends in
         record {
           prepared = growing-prepared;
+          links = a .links;
           here = omega (arith, g .passed);
           bounded = omega (arith, fits, a .bounded);
           room = omega (arith, growing-bound, a .room);
         }
+
+    -- the link of z leads to a lesser point
+    pub growing-less : getD before z 0 < y
+    growing-less = omega (arith, a .links .before-are x z (omega (arith, g .passed)) (g .hangs z q), last-bound f x z)
 
     module _ {next : ℕ} {numbers′ labelled′ : List ℕ} (w : Planted (plantAt f z ∷ []) end numbers labelled next numbers′ labelled′) where
       next-bound : next ≤ length f
@@ -226,16 +244,14 @@ module _ {f marks : List ℕ} {x left at : ℕ} {d e : List ℕ} {y end : ℕ} {
             same = labels-kept ∙ sym numbers-kept;
           }
 
-      -- and then the branches from z on are written
+      -- and then the branches from z on are written, and the link of z leads to the next one
       pub growing-take : {numbers″ labelled″ : List ℕ} → Inserts (at + 1) end next numbers′ labelled′ numbers″ labelled″
-          → Growing f x at d e z next numbers″ labelled″
+          → Growing f x at d e (getD before z 0) next numbers″ labelled″
       growing-take {numbers″} {labelled″} i =
-          record {
-            passed = omega (arith, g .passed);
-            planted = subst (λ us. Planted us (at + 1) d e next numbers″ labelled″) (sym (branches-take f x y z q (g .passed) t))
-                (i .inserts (branchesFrom f x y) (plantAt f z) d e
-                (omega (arith, next-bound, a .prepared .numbers-room)) (omega (arith, next-bound, a .prepared .labels-room)) (g .planted .ends) joined);
-          }
+          growing-link z (omega (arith, g .passed)) (a .links .before-are x z (omega (arith, g .passed)) (g .hangs z q))
+          (subst (λ us. Planted us (at + 1) d e next numbers″ labelled″) (sym (branches-take f x y z q (g .passed) (g .hangs z q)))
+          (i .inserts (branchesFrom f x y) (plantAt f z) d e
+          (omega (arith, next-bound, a .prepared .numbers-room)) (omega (arith, next-bound, a .prepared .labels-room)) (g .planted .ends) joined))
 
 -- one entry before what is placed
 set-placed : (at v : ℕ) (l d : List ℕ) → at + 1 + length l ≤ length d → set (placed (at + 1) l d) at v ≡ placed at (v ∷ l) d
@@ -257,9 +273,9 @@ code-plant x us =
     ∙ ap₂ (λ k bs. k ∷ flat bs) (size-graft (map shape us)) (branches-graft (map shape us))
 
 -- all branches are written: the root is written before them
-pub growing-end : {f marks : List ℕ} {x left at : ℕ} {d e : List ℕ} {y end : ℕ} {numbers labelled : List ℕ} → TreeAsked f marks x left d e at
+pub growing-end : {f last before : List ℕ} {x left at : ℕ} {d e : List ℕ} {y end : ℕ} {numbers labelled : List ℕ} → TreeAsked f last before x left d e at
     → Growing f x at d e y end numbers labelled → y ≡ 0 → Planted (plantAt f x ∷ []) at d e end (set numbers at (end - at)) (set labelled at x)
-growing-end {f} {marks} {x} {left} {at} {d} {e} {y} {end} {numbers} {labelled} a g z =
+growing-end {f} {last} {before} {x} {left} {at} {d} {e} {y} {end} {numbers} {labelled} a g z =
     let us : List Plant = branchesFrom f x 0 in
     let p : Planted us (at + 1) d e end numbers labelled = subst (λ k. Planted (branchesFrom f x k) (at + 1) d e end numbers labelled) z (g .planted) in
     let plant : plantAt f x ≡ plantOn (tip x) us = plant-branches f x (whole a g) in

@@ -20,6 +20,8 @@ pub mod Theorems
 pub mod CensusTheory
 pub mod Marking
 pub mod Marks
+pub mod Walking
+pub mod Linking
 pub mod Standing
 pub mod Imaging
 pub mod CycleImages

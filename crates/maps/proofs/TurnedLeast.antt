@@ -44,7 +44,7 @@ along-trees f x =
     let s = of-map (plantAt f) (cycleFrom (length f) (image f) x) (r .1) in
     ap validTree (r .2 ∙ ap shape (s .2) ∙ plantTo-shape (length f) (image f) (length f) (s .0)) ∙ treeTo-valid (length f) (image f) (length f) (s .0))
 
-module _ {f marks : List ℕ} {x at : ℕ} {d e : List ℕ} (a : CycleAsked f marks x d e at)
+module _ {f last before : List ℕ} {x at : ℕ} {d e : List ℕ} (a : CycleAsked f last before x d e at)
     {end : ℕ} {numbers labelled : List ℕ} (p : Planted (plantsAlong f x) at d e end numbers labelled) where
   pub written-bound : (at ≤ end) × (end ≤ length f)
   written-bound = (omega (arith, p .ends), omega (arith, p .ends, a .room))

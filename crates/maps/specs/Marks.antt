@@ -4,12 +4,16 @@ use mathlib.Core.Bool.{true, cond}
 use mathlib.Core.List.{List}
 use Prim.Native.Nat.{ℕ, zero, suc, _<_, _≤_}
 use lib.ListN.{length, getD}
-use Rattle.patterns.specs.Table.{image, isTable, onCycle}
+use Rattle.patterns.specs.Table.{image, isTable, onCycle, cycleFrom, leadsCycle}
 
 -- k steps from x
 abbrev pub iterate : (ℕ → ℕ) → ℕ → ℕ → ℕ
 iterate f zero x = x
 iterate f (suc k) x = iterate f k (f x)
+
+-- the length of the cycle whose least point is x, and 0 where there is none
+unfoldable pub lengthLed : ℕ → (ℕ → ℕ) → ℕ → ℕ
+lengthLed n f x = cond (leadsCycle n f x) (length (cycleFrom n f x)) 0
 
 -- a table of at most 200 points, and room for one mark for each point
 pub record MarksAsked (f marks : List ℕ) : Type 0 where

@@ -12,6 +12,8 @@ use Rattle.patterns.specs.System.{System, weight, compareGenerated}
 use Rattle.patterns.specs.Table.{systemOfTable}
 use Rattle.patterns.specs.MapOf.{mapOf}
 use Rattle.patterns.specs.Isomorphism.{Isomorphism}
+use Rattle.maps.specs.Marks.{Marked}
+use Rattle.maps.specs.Links.{Links}
 use Rattle.maps.specs.declared.Place.{Place}
 use Rattle.maps.specs.Plants.{Plant, shape, shapes, compareShapes, joined}
 use Rattle.maps.specs.Writing.{Planted, Prepared}
@@ -73,8 +75,14 @@ pub record ComponentInserted (m end next : ℕ) (sizes₀ numbers₀ labelled₀
 
 -- a table with its marks, and room for a size, a number and a label for each point
 pub record SystemAsked (f marks sizes numbers labelled : List ℕ) : Type 0 where
-  pub prepared : Prepared f marks numbers labelled
+  pub prepared : Prepared f numbers labelled
+  pub marked : Marked f marks
   pub sizes-room : length sizes ≡ length f
+
+-- the same, with the links of the table
+pub record ComponentsAsked (f marks last before sizes numbers labelled : List ℕ) : Type 0 where
+  pub asked : SystemAsked f marks sizes numbers labelled
+  pub links : Links f (length f) last before
 
 -- The system of the table f was written, its sizes in the first r places. The labels are an isomorphism from the map of the system to f; which one, if
 -- there are several, is left free.

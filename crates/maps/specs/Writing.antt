@@ -12,7 +12,7 @@ use Rattle.patterns.specs.Component.{Component, points, flat, compareComponent,
 use Rattle.patterns.proofs.Rotations.{Rotated}
 use Rattle.patterns.specs.Table.{image, isTable, onCycle}
 use Rattle.written.specs.Putting.{placed}
-use Rattle.maps.specs.Marks.{Marked}
+use Rattle.maps.specs.Links.{Links}
 use Rattle.maps.specs.Images.{Stands}
 use Rattle.maps.specs.Plants.{Plant, shape, labels, comparePlant, plantAt, plantsAlong}
 
@@ -44,24 +44,30 @@ pub record Inserts (start end next : ℕ) (numbers₀ labelled₀ numbers labell
   pub inserts : (us : List Plant) (v : Plant) (d e : List ℕ) → next ≤ length d → next ≤ length e → end ≡ start + points (map shape us)
       → Planted (us ++ (v ∷ [])) start d e next numbers₀ labelled₀ → Planted (insert comparePlant v us) start d e next numbers labelled
 
--- a table of at most 200 points with its marks, and room for a number and a label for each point
-pub record Prepared (f marks numbers labelled : List ℕ) : Type 0 where
+-- a table of at most 200 points, and room for a number and a label for each point
+pub record Prepared (f numbers labelled : List ℕ) : Type 0 where
   pub table : isTable f ≡ true
   pub small : length f ≤ 200
-  pub marked : Marked f marks
   pub numbers-room : length numbers ≡ length f
   pub labels-room : length labelled ≡ length f
 
 -- the tree at x is asked for from place `at` on, and has at most `left` points, for which there is room
-pub record TreeAsked (f marks : List ℕ) (x left : ℕ) (numbers labelled : List ℕ) (at : ℕ) : Type 0 where
-  pub prepared : Prepared f marks numbers labelled
+pub record TreeAsked (f last before : List ℕ) (x left : ℕ) (numbers labelled : List ℕ) (at : ℕ) : Type 0 where
+  pub prepared : Prepared f numbers labelled
+  pub links : Links f (length f) last before
   pub here : x < length f
   pub bounded : size (shape (plantAt f x)) ≤ left
   pub room : at + left ≤ length f
 
+-- the same, of some table that has these links
+pub record TreeOfLinks (last before : List ℕ) (x left : ℕ) (numbers labelled : List ℕ) (at : ℕ) : Type 0 where
+  pub of : List ℕ
+  pub asked : TreeAsked of last before x left numbers labelled at
+
 -- the trees along the cycle from x are asked for from place `at` on, and there is room for them
-pub record CycleAsked (f marks : List ℕ) (x : ℕ) (numbers labelled : List ℕ) (at : ℕ) : Type 0 where
-  pub prepared : Prepared f marks numbers labelled
+pub record CycleAsked (f last before : List ℕ) (x : ℕ) (numbers labelled : List ℕ) (at : ℕ) : Type 0 where
+  pub prepared : Prepared f numbers labelled
+  pub links : Links f (length f) last before
   pub here : x < length f
   pub on : onCycle (length f) (image f) x ≡ true
   pub room : at + points (map shape (plantsAlong f x)) ≤ length f

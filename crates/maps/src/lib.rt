@@ -13,21 +13,22 @@ ghost use mathlib.Core.Bool.{true, cond};
 ghost use mathlib.Core.List.{List, [], _∷_, _++_, map};
 ghost use Prim.Native.Nat.{ℕ, _+_, _≤_, _<_, compare as compareNumbers};
 ghost use lib.Dec.{ltb};
-ghost use lib.ListN.{length, getD, take, drop};
+ghost use lib.ListN.{length, take, drop};
 ghost use Rattle.lists.specs.Order.{lex, atMost};
 ghost use Rattle.lists.specs.Select.{gather};
 ghost use Rattle.patterns.specs.Tree.{Tree, code};
 ghost use Rattle.patterns.specs.Component.{Component, flat, points as pointsOf};
 ghost use Rattle.patterns.specs.System.{System, compareGenerated};
 ghost use Rattle.patterns.specs.MapOf.{innerImages, cycleImages, mapOf};
-ghost use Rattle.patterns.specs.Table.{image, isTable, hangsAt, leadsCycle};
+ghost use Rattle.patterns.specs.Table.{image, isTable, leadsCycle};
 ghost use Rattle.written.specs.Putting.{placed};
 ghost use Rattle.maps.specs.Images.{Stands, TreeStands, ComponentStands, HeldMap};
 ghost use Rattle.components.specs.Held.{Held};
 ghost use Rattle.maps.specs.Plants.{plantAt, plantsAlong};
-ghost use Rattle.maps.specs.Writing.{pointsBefore, RowStands, Inserts, TreeAsked, CycleAsked, Planted, LeastStart, ComponentWritten};
-ghost use Rattle.maps.specs.Systems.{BothValid, PlaceAsked, PlaceFound, InsertAsked, ComponentInserted, SystemAsked, SystemWritten};
-ghost use Rattle.maps.specs.Marks.{MarksAsked, Images, Far, Marked, MarkedPoint};
+ghost use Rattle.maps.specs.Writing.{pointsBefore, RowStands, Inserts, TreeAsked, TreeOfLinks, CycleAsked, Planted, LeastStart, ComponentWritten};
+ghost use Rattle.maps.specs.Systems.{BothValid, PlaceAsked, PlaceFound, InsertAsked, ComponentInserted, SystemAsked, ComponentsAsked, SystemWritten};
+ghost use Rattle.maps.specs.Links.{LinksAsked, Links};
+ghost use Rattle.maps.specs.Marks.{lengthLed, MarksAsked, Images, Far, Marked, MarkedPoint};
 
 // Room for a number for each point.
 fn points_room() -> [u8; 200]
@@ -95,35 +96,50 @@ pub fn mark_cycles(f: &[u8], marks: &mut [u8])
     mark_reached(f, &mut far[..f.len()], marks);
 }
 
-// `y` goes to `x` and is on no cycle.
-fn hangs_at(f: &[u8], marks: &[u8], x: usize, y: usize) -> bool
-    requires { ⌜ MarkedPoint (now f) (now marks) y ⌝ }
-    ensures { λ r. ⌜ r ≡ hangsAt (length (now (f .entry))) (image (now (f .entry))) x y ⌝ }
+// Links through the points that hang at a point, each one more than the point that it leads to, or 0 where there is none: `last[x]` leads to the
+// greatest that hangs at x, `before[y]` to the next lesser one that hangs where y does.
+fn link_branches(f: &[u8], marks: &[u8], last: &mut [u8], before: &mut [u8])
+    requires { ⌜ LinksAsked (now f) (now marks) (now last) (now before) ⌝ }
+    ensures { λ r. ⌜ Links (now (f .entry)) (length (now (f .entry))) (now (last .exit)) (now (before .exit)) ⌝ }
 {
-    if f[y] as usize != x {
-        return false;
+    set_all(last, 0);
+    let mut y = 0;
+    while y < f.len() {
+        if marks[y] == 0 {
+            let x = f[y] as usize;
+            before[y] = last[x];
+            last[x] = (y + 1) as u8;
+        }
+        y += 1;
     }
-    marks[y] == 0
+}
+
+// The length of the cycle whose least point is `x`, and 0 where there is none.
+pub fn length_led(f: &[u8], marks: &[u8], x: usize) -> usize
+    requires { ⌜ MarkedPoint (now f) (now marks) x ⌝ }
+    ensures { λ r. ⌜ r ≡ lengthLed (length (now (f .entry))) (image (now (f .entry))) x ⌝ }
+{
+    if marks[x] == 0 {
+        return 0;
+    }
+    let mut length = 1;
+    let mut y = f[x] as usize;
+    while y != x {
+        if y < x {
+            return 0;
+        }
+        y = f[y] as usize;
+        length += 1;
+    }
+    length
 }
 
 // `x` is on a cycle and is its least point.
-pub fn leads_cycle(f: &[u8], marks: &[u8], x: usize) -> bool
+fn leads_cycle(f: &[u8], marks: &[u8], x: usize) -> bool
     requires { ⌜ MarkedPoint (now f) (now marks) x ⌝ }
     ensures { λ r. ⌜ r ≡ leadsCycle (length (now (f .entry))) (image (now (f .entry))) x ⌝ }
 {
-    if marks[x] == 0 {
-        return false;
-    }
-    let mut y = x;
-    let mut i = 0;
-    while i < f.len() {
-        y = f[y] as usize;
-        if y < x {
-            return false;
-        }
-        i += 1;
-    }
-    true
+    0 < length_led(f, marks, x)
 }
 
 // How many points the trees of `row` have that stand before the first one that `tree` does not exceed.
@@ -154,28 +170,28 @@ fn insert_tree(numbers: &mut [u8], points: &mut [u8], start: usize, end: usize, 
 }
 
 // Writes the tree at `x` from `at` on, its points beside its numbers, and answers the place after it; it has at most `left` points.
-// The branches come from the greatest point to the least, and each is inserted among those before it.
-pub fn write_tree(
-    f: &[u8],
-    marks: &[u8],
+// The branches come along the links, from the greatest point to the least, and each is inserted among those before it.
+fn write_tree(
+    last: &[u8],
+    before: &[u8],
     x: usize,
     left: usize,
     numbers: &mut [u8],
     points: &mut [u8],
     at: usize,
 ) -> usize
-    requires { ⌜ TreeAsked (now f) (now marks) x left (now numbers) (now points) at ⌝ }
-    ensures { λ r. ⌜ Planted (plantAt (now (f .entry)) x ∷ []) at (now (numbers .entry)) (now (points .entry)) r (now (numbers .exit)) (now (points .exit)) ⌝ }
+    requires { ⌜ TreeOfLinks (now last) (now before) x left (now numbers) (now points) at ⌝ }
+    ensures { λ r. ⌜ ((f : List ℕ) → TreeAsked f (now (last .entry)) (now (before .entry)) x left (now (numbers .entry)) (now (points .entry)) at
+        → Planted (plantAt f x ∷ []) at (now (numbers .entry)) (now (points .entry)) r (now (numbers .exit)) (now (points .exit))) ⌝ }
 {
     let mut end = at + 1;
-    let mut y = f.len();
+    let mut y = last[x] as usize;
     while 0 < y {
-        y -= 1;
-        if hangs_at(f, marks, x, y) {
-            let next = write_tree(f, marks, y, left - (end - at), numbers, points, end);
-            insert_tree(numbers, points, at + 1, end, next);
-            end = next;
-        }
+        let z = y - 1;
+        let next = write_tree(last, before, z, left - (end - at), numbers, points, end);
+        insert_tree(numbers, points, at + 1, end, next);
+        end = next;
+        y = before[z] as usize;
     }
     numbers[at] = (end - at) as u8;
     points[at] = x as u8;
@@ -185,20 +201,21 @@ pub fn write_tree(
 // Writes the trees along the cycle from `x` on, and answers the place after them.
 fn write_cycle(
     f: &[u8],
-    marks: &[u8],
+    last: &[u8],
+    before: &[u8],
     x: usize,
     numbers: &mut [u8],
     points: &mut [u8],
     at: usize,
 ) -> usize
-    requires { ⌜ CycleAsked (now f) (now marks) x (now numbers) (now points) at ⌝ }
+    requires { ⌜ CycleAsked (now f) (now last) (now before) x (now numbers) (now points) at ⌝ }
     ensures { λ r. ⌜ Planted (plantsAlong (now (f .entry)) x) at (now (numbers .entry)) (now (points .entry)) r (now (numbers .exit)) (now (points .exit)) ⌝ }
 {
     let n = f.len();
-    let mut end = write_tree(f, marks, x, n - at, numbers, points, at);
+    let mut end = write_tree(last, before, x, n - at, numbers, points, at);
     let mut y = f[x] as usize;
     while y != x {
-        end = write_tree(f, marks, y, n - end, numbers, points, end);
+        end = write_tree(last, before, y, n - end, numbers, points, end);
         y = f[y] as usize;
     }
     end
@@ -243,18 +260,19 @@ fn least_start(s: &[u8]) -> usize
 }
 
 // Writes the component whose cycle goes through `x` from `at` on, its points beside its numbers, and answers the place after it.
-pub fn write_component(
+fn write_component(
     f: &[u8],
-    marks: &[u8],
+    last: &[u8],
+    before: &[u8],
     x: usize,
     numbers: &mut [u8],
     points: &mut [u8],
     at: usize,
 ) -> usize
-    requires { ⌜ CycleAsked (now f) (now marks) x (now numbers) (now points) at ⌝ }
+    requires { ⌜ CycleAsked (now f) (now last) (now before) x (now numbers) (now points) at ⌝ }
     ensures { λ r. ⌜ ComponentWritten (now (f .entry)) x at (now (numbers .entry)) (now (points .entry)) r (now (numbers .exit)) (now (points .exit)) ⌝ }
 {
-    let end = write_cycle(f, marks, x, numbers, points, at);
+    let end = write_cycle(f, last, before, x, numbers, points, at);
     let p = at + least_start(&numbers[at..end]);
     exchange(numbers, at, p, end);
     exchange(points, at, p, end);
@@ -324,8 +342,43 @@ fn insert_component(
     exchange(points, place.at, end, next);
 }
 
+// Writes the components of the table, their sizes, their numbers and beside them their points, and answers how many there are.
+// They come from the greatest leader of a cycle to the least, and each is inserted among those before it.
+fn write_components(
+    f: &[u8],
+    marks: &[u8],
+    last: &[u8],
+    before: &[u8],
+    sizes: &mut [u8],
+    numbers: &mut [u8],
+    points: &mut [u8],
+) -> usize
+    requires { ⌜ ComponentsAsked (now f) (now marks) (now last) (now before) (now sizes) (now numbers) (now points) ⌝ }
+    ensures { λ r. ⌜ SystemWritten (now (f .entry)) r (now (sizes .exit)) (now (numbers .exit)) (now (points .exit)) ⌝ }
+{
+    let mut m = 0;
+    let mut end = 0;
+    let mut x = f.len();
+    while 0 < x {
+        x -= 1;
+        if leads_cycle(f, marks, x) {
+            let next = write_component(f, last, before, x, numbers, points, end);
+            insert_component(sizes, m, numbers, points, end, next);
+            m += 1;
+            end = next;
+        }
+    }
+    m
+}
+
+// Room for a link for each point.
+fn links_room() -> [u8; 200]
+    ensures { λ r. ⌜ length r ≡ 200 ⌝ }
+{
+    [0u8; 200]
+}
+
 // Writes the system of the table, its sizes, its numbers and beside them its points, and answers how many components it has.
-// The components come from the greatest leader of a cycle to the least, and each is inserted among those before it.
 pub fn write_system(
     f: &[u8],
     marks: &[u8],
@@ -336,19 +389,11 @@ pub fn write_system(
     requires { ⌜ SystemAsked (now f) (now marks) (now sizes) (now numbers) (now points) ⌝ }
     ensures { λ r. ⌜ SystemWritten (now (f .entry)) r (now (sizes .exit)) (now (numbers .exit)) (now (points .exit)) ⌝ }
 {
-    let mut m = 0;
-    let mut end = 0;
-    let mut x = f.len();
-    while 0 < x {
-        x -= 1;
-        if leads_cycle(f, marks, x) {
-            let next = write_component(f, marks, x, numbers, points, end);
-            insert_component(sizes, m, numbers, points, end, next);
-            m += 1;
-            end = next;
-        }
-    }
-    m
+    let n = f.len();
+    let mut last = links_room();
+    let mut before = links_room();
+    link_branches(f, marks, &mut last[..n], &mut before[..n]);
+    write_components(f, marks, &last[..n], &before[..n], sizes, numbers, points)
 }
 
 // Writes the images of the points of the tree at `p` but its root: a branch goes to the point that it is a branch of.

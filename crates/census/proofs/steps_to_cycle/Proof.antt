@@ -5,7 +5,7 @@ use borrow.Author.Needs.{needs}
 use lib.ListN.{length}
 use Rattle.patterns.specs.Table.{image}
 use Rattle.patterns.specs.Census.{stepsToCycle}
-use Rattle.census.proofs.Points.{inside, unmarked, marked}
+use Rattle.maps.proofs.Marks.{inside, marks-off, marks-on}
 use Rattle.census.proofs.Stepping.{Stepping, stepping-start, stepping-bound, stepping-falls, stepping-next, stepping-end}
 use Rattle.census.proofs.steps_to_cycle.Statement.{statement}
 use Rattle.census.proofs.steps_to_cycle.Tie as tie
@@ -40,19 +40,19 @@ loop-less : tie.Need-loop-less Inv-loop μ-loop
 loop-less c =
     let a = c .before .before .before .before .args in
     let l = c .before .before .before .loop in
-    stepping-falls (length (now (a .f))) (image (now (a .f))) (inside (now (a .f)) (c .before .before .before .before .pre .table)) (l .inv) (unmarked (c .before .before .before .before .pre .marked) (l .y) (l .inv .point) (c .before .if1 .taken))
+    stepping-falls (length (now (a .f))) (image (now (a .f))) (inside (now (a .f)) (c .before .before .before .before .pre .table)) (l .inv) (marks-off (c .before .before .before .before .pre .marked) (l .inv .point) (c .before .if1 .taken))
 
 loop-again : tie.Need-loop-again Inv-loop μ-loop
 loop-again c =
     let a = c .before .before .before .before .args in
     let l = c .before .before .before .loop in
-    stepping-next (length (now (a .f))) (image (now (a .f))) (inside (now (a .f)) (c .before .before .before .before .pre .table)) (l .inv) (unmarked (c .before .before .before .before .pre .marked) (l .y) (l .inv .point) (c .before .if1 .taken))
+    stepping-next (length (now (a .f))) (image (now (a .f))) (inside (now (a .f)) (c .before .before .before .before .pre .table)) (l .inv) (marks-off (c .before .before .before .before .pre .marked) (l .inv .point) (c .before .if1 .taken))
 
 returns : tie.Need-returns Inv-loop μ-loop
 returns c =
     let a = c .before .before .before .args in
     let l = c .before .before .loop in
-    sym (stepping-end (length (now (a .f))) (image (now (a .f))) (inside (now (a .f)) (c .before .before .before .pre .table)) (l .inv) (marked (c .before .before .before .pre .marked) (l .y) (l .inv .point) (c .if1 .left)))
+    sym (stepping-end (length (now (a .f))) (image (now (a .f))) (inside (now (a .f)) (c .before .before .before .pre .table)) (l .inv) (marks-on (c .before .before .before .pre .marked) (l .inv .point) (c .if1 .left)))
 
 pub steps-to-cycle-spec : {M : Type 1} → statement M
 steps-to-cycle-spec =

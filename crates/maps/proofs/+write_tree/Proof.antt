@@ -1,7 +1,8 @@
-use denote.Ref.{now}
 use mathlib.Core.Path.{sym, _∙_}
+use mathlib.Core.List.{List}
 use lib.ListN.{length-set}
-use Rattle.maps.proofs.Growing.{Growing, growing-start, growing-bound, growing-numbers, growing-labels, growing-skip, growing-asked, growing-row, growing-take, growing-end}
+use Rattle.maps.specs.Writing.{TreeAsked}
+use Rattle.maps.proofs.Growing.{Growing, growing-start, growing-bound, growing-numbers, growing-labels, growing-asked, growing-row, growing-take, growing-less, growing-end}
 use native.Mathlib.Omega.{arith}
 use borrow.Author.Needs.{needs}
 use Prim.Native.Nat.{ℕ, _<_, _+_, _-_}
@@ -10,7 +11,6 @@ use borrow.Fn.PlainCycle.{Measures, is, falls, and}
 use Rattle.maps.proofs.write_tree.Reads as write-tree
 use Rattle.maps.proofs.write_tree.Kinds as write-tree-kinds
 use Rattle.maps.proofs.+write_tree.Lts-write_tree as write-tree-lts
-use Rattle.maps.proofs.hangs_at.Reads as hangs-at-reads
 use Rattle.maps.proofs.insert_tree.Reads as insert-tree-reads
 use Rattle.maps.proofs.+write_tree.{statement}
 use Rattle.maps.proofs.+write_tree.Tie.{close}
@@ -27,249 +27,232 @@ write-tree-below t =
     and 4 write-tree-kinds.ps (falls 4 write-tree-kinds.ps _<_ μ-write-tree t) write-tree.Pre
 
 abbrev write-tree-Inv-loop : write-tree-lts.InvT-loop
-write-tree-Inv-loop f marks x left numbers₀ points₀ at end₀ y₀ numbers points end y = Growing f x at numbers₀ points₀ y end numbers points
+write-tree-Inv-loop last before x left numbers₀ points₀ at end₀ y₀ numbers points end y =
+    (f : List ℕ) → TreeAsked f last before x left numbers₀ points₀ at → Growing f x at numbers₀ points₀ y end numbers points
 
 abbrev write-tree-μ-loop : write-tree-lts.MeasureT-loop
-write-tree-μ-loop f marks x left numbers₀ points₀ at end₀ y₀ numbers points end y = y
+write-tree-μ-loop last before x left numbers₀ points₀ at end₀ y₀ numbers points end y = y
 
 write-tree-add-end : (t : ℕ) → write-tree-lts.Need-add-end (
-  hangs-at-reads.Asked,
-  hangs-at-reads.Learnt,
   write-tree-below t,
   write-tree.Post,
   insert-tree-reads.Asked,
   insert-tree-reads.Learnt,
 ) (write-tree-at t) write-tree.Post write-tree-Inv-loop write-tree-μ-loop
-write-tree-add-end t c = omega (arith, c .before .before .before .before .pre .1 .room, c .before .before .before .before .pre .1 .prepared .small)
+write-tree-add-end t c = omega (arith, c .before .before .before .before .pre .1 .asked .room, c .before .before .before .before .pre .1 .asked .prepared .small)
+
+write-tree-shared-slice-read-y : (t : ℕ) → write-tree-lts.Need-shared-slice-read-y (
+  write-tree-below t,
+  write-tree.Post,
+  insert-tree-reads.Asked,
+  insert-tree-reads.Learnt,
+) (write-tree-at t) write-tree.Post write-tree-Inv-loop write-tree-μ-loop
+write-tree-shared-slice-read-y t c = omega (arith, c .before .before .before .before .before .pre .1 .asked .here, c .before .before .before .before .before .pre .1 .asked .links .last-room)
+
+write-tree-cast-y : (t : ℕ) → write-tree-lts.Need-cast-y (
+  write-tree-below t,
+  write-tree.Post,
+  insert-tree-reads.Asked,
+  insert-tree-reads.Learnt,
+) (write-tree-at t) write-tree.Post write-tree-Inv-loop write-tree-μ-loop
+write-tree-cast-y t c = omega (arith, c .shared-slice-known3 .given (c .before .before .before .before .before .args .x))
 
 write-tree-loop-holds : (t : ℕ) → write-tree-lts.Need-loop-holds (
-  hangs-at-reads.Asked,
-  hangs-at-reads.Learnt,
   write-tree-below t,
   write-tree.Post,
   insert-tree-reads.Asked,
   insert-tree-reads.Learnt,
 ) (write-tree-at t) write-tree.Post write-tree-Inv-loop write-tree-μ-loop
-write-tree-loop-holds t c =
-    let a = c .before .before .before .before .args in
-    growing-start (now (a .f)) (a .x) (a .at) (now (a .numbers)) (now (a .points))
+write-tree-loop-holds t c = λ f a. growing-start a
 
-write-tree-sub-y : (t : ℕ) → write-tree-lts.Need-sub-y (
-  hangs-at-reads.Asked,
-  hangs-at-reads.Learnt,
+write-tree-sub-z : (t : ℕ) → write-tree-lts.Need-sub-z (
   write-tree-below t,
   write-tree.Post,
   insert-tree-reads.Asked,
   insert-tree-reads.Learnt,
 ) (write-tree-at t) write-tree.Post write-tree-Inv-loop write-tree-μ-loop
-write-tree-sub-y t c = search needs
-
-write-tree-hangs-at-requires : (t : ℕ) → write-tree-lts.Need-hangs-at-requires (
-  hangs-at-reads.Asked,
-  hangs-at-reads.Learnt,
-  write-tree-below t,
-  write-tree.Post,
-  insert-tree-reads.Asked,
-  insert-tree-reads.Learnt,
-) (write-tree-at t) write-tree.Post write-tree-Inv-loop write-tree-μ-loop
-write-tree-hangs-at-requires t c κs =
-    let p = c .before .before .before .before .before .before .pre .1 .prepared in
-    record { table = p .table; marked = p .marked; here = omega (arith, c .before .loop .inv .passed) }
+write-tree-sub-z t c = search needs
 
 write-tree-sub-write-tree : (t : ℕ) → write-tree-lts.Need-sub-write-tree (
-  hangs-at-reads.Asked,
-  hangs-at-reads.Learnt,
   write-tree-below t,
   write-tree.Post,
   insert-tree-reads.Asked,
   insert-tree-reads.Learnt,
 ) (write-tree-at t) write-tree.Post write-tree-Inv-loop write-tree-μ-loop
-write-tree-sub-write-tree t c = omega (arith, growing-bound (c .before .before .before .before .before .before .before .before .pre .1) (c .before .before .before .loop .inv))
+write-tree-sub-write-tree t c =
+    let a = c .before .before .before .before .before .before .before .pre .1 .asked in
+    omega (arith, growing-bound a (c .before .loop .inv _ a))
 
 write-tree-sub-write-tree-2 : (t : ℕ) → write-tree-lts.Need-sub-write-tree-2 (
-  hangs-at-reads.Asked,
-  hangs-at-reads.Learnt,
   write-tree-below t,
   write-tree.Post,
   insert-tree-reads.Asked,
   insert-tree-reads.Learnt,
 ) (write-tree-at t) write-tree.Post write-tree-Inv-loop write-tree-μ-loop
-write-tree-sub-write-tree-2 t c = omega (arith, growing-bound (c .before .before .before .before .before .before .before .before .pre .1) (c .before .before .before .loop .inv))
+write-tree-sub-write-tree-2 t c =
+    let a = c .before .before .before .before .before .before .before .pre .1 .asked in
+    omega (arith, growing-bound a (c .before .loop .inv _ a))
 
 write-tree-write-tree-requires : (t : ℕ) → write-tree-lts.Need-write-tree-requires (
-  hangs-at-reads.Asked,
-  hangs-at-reads.Learnt,
   write-tree-below t,
   write-tree.Post,
   insert-tree-reads.Asked,
   insert-tree-reads.Learnt,
 ) (write-tree-at t) write-tree.Post write-tree-Inv-loop write-tree-μ-loop
 write-tree-write-tree-requires t c κs =
-    let s = c .before .before .before .before .before .before .before .before .before .before in
-    let l = c .before .before .before .before .before .loop in (
-      omega (arith, growing-bound (s .pre .1) (l .inv), s .pre .0),
-      growing-asked (s .pre .1) (l .inv) (l .y - 1) (omega arith) (sym (c .before .before .before .hangs-at .ensures) ∙ c .before .before .if1 .taken),
+    let s = c .before .before .before .before .before .before .before .before .before in
+    let l = c .before .before .before .loop in
+    let a = s .pre .1 .asked in (
+      omega (arith, growing-bound a (l .inv _ a), s .pre .0),
+      record { of = s .pre .1 .of; asked = growing-asked a (l .inv _ a) (l .y - 1) (omega arith) },
     )
 
 write-tree-add-insert-tree : (t : ℕ) → write-tree-lts.Need-add-insert-tree (
-  hangs-at-reads.Asked,
-  hangs-at-reads.Learnt,
   write-tree-below t,
   write-tree.Post,
   insert-tree-reads.Asked,
   insert-tree-reads.Learnt,
 ) (write-tree-at t) write-tree.Post write-tree-Inv-loop write-tree-μ-loop
-write-tree-add-insert-tree t c = omega (arith, c .before .before .before .before .before .before .before .before .before .before .before .before .before .before .before .before .before .pre .1 .room, c .before .before .before .before .before .before .before .before .before .before .before .before .before .before .before .before .before .pre .1 .prepared .small)
+write-tree-add-insert-tree t c = omega (arith, c .before .before .before .before .before .before .before .before .before .before .before .before .before .before .before .before .pre .1 .asked .room, c .before .before .before .before .before .before .before .before .before .before .before .before .before .before .before .before .pre .1 .asked .prepared .small)
 
 write-tree-insert-tree-requires : (t : ℕ) → write-tree-lts.Need-insert-tree-requires (
-  hangs-at-reads.Asked,
-  hangs-at-reads.Learnt,
   write-tree-below t,
   write-tree.Post,
   insert-tree-reads.Asked,
   insert-tree-reads.Learnt,
 ) (write-tree-at t) write-tree.Post write-tree-Inv-loop write-tree-μ-loop
 write-tree-insert-tree-requires t c κs =
-    let s = c .before .before .before .before .before .before .before .before .before .before .before .before .before .before .before .before .before in
-    let l = c .before .before .before .before .before .before .before .before .before .before .before .before .loop in
-    growing-row (s .pre .1) (l .inv) (l .y - 1) (omega arith) (sym (c .before .before .before .before .before .before .before .before .before .before .hangs-at .ensures) ∙ c .before .before .before .before .before .before .before .before .before .if1 .taken) (c .before .before .before .before .before .before .write-tree .ensures)
+    let l = c .before .before .before .before .before .before .before .before .before .before .loop in
+    let a = c .before .before .before .before .before .before .before .before .before .before .before .before .before .before .before .before .pre .1 .asked in
+    let g = l .inv _ a in
+    growing-row a g (l .y - 1) (omega arith) (c .before .before .before .before .before .before .write-tree .ensures _ (growing-asked a g (l .y - 1) (omega arith)))
 
-write-tree-loop-less : (t : ℕ) → write-tree-lts.Need-loop-less (
-  hangs-at-reads.Asked,
-  hangs-at-reads.Learnt,
+write-tree-shared-slice-read-y-2 : (t : ℕ) → write-tree-lts.Need-shared-slice-read-y-2 (
   write-tree-below t,
   write-tree.Post,
   insert-tree-reads.Asked,
   insert-tree-reads.Learnt,
 ) (write-tree-at t) write-tree.Post write-tree-Inv-loop write-tree-μ-loop
-write-tree-loop-less t c = omega arith
+write-tree-shared-slice-read-y-2 t c =
+    let a = c .before .before .before .before .before .before .before .before .before .before .before .before .before .before .before .before .before .before .before .before .before .before .pre .1 .asked in
+    omega (arith, (c .before .before .before .before .before .before .before .before .before .before .before .before .before .before .before .before .loop .inv _ a) .passed, a .links .before-room)
+
+write-tree-cast-y-2 : (t : ℕ) → write-tree-lts.Need-cast-y-2 (
+  write-tree-below t,
+  write-tree.Post,
+  insert-tree-reads.Asked,
+  insert-tree-reads.Learnt,
+) (write-tree-at t) write-tree.Post write-tree-Inv-loop write-tree-μ-loop
+write-tree-cast-y-2 t c = omega (arith, c .shared-slice-known4 .given (c .before .before .before .before .before .before .before .before .before .before .before .before .before .before .before .before .loop .y - 1))
+
+write-tree-loop-less : (t : ℕ) → write-tree-lts.Need-loop-less (
+  write-tree-below t,
+  write-tree.Post,
+  insert-tree-reads.Asked,
+  insert-tree-reads.Learnt,
+) (write-tree-at t) write-tree.Post write-tree-Inv-loop write-tree-μ-loop
+write-tree-loop-less t c =
+    let l = c .before .before .before .before .before .before .before .before .before .before .before .before .before .before .before .before .loop in
+    let a = c .before .before .before .before .before .before .before .before .before .before .before .before .before .before .before .before .before .before .before .before .before .before .pre .1 .asked in
+    growing-less a (l .inv _ a) (l .y - 1) (omega arith)
 
 write-tree-loop-again : (t : ℕ) → write-tree-lts.Need-loop-again (
-  hangs-at-reads.Asked,
-  hangs-at-reads.Learnt,
   write-tree-below t,
   write-tree.Post,
   insert-tree-reads.Asked,
   insert-tree-reads.Learnt,
 ) (write-tree-at t) write-tree.Post write-tree-Inv-loop write-tree-μ-loop
 write-tree-loop-again t c =
-    let s = c .before .before .before .before .before .before .before .before .before .before .before .before .before .before .before .before .before .before .before .before .before .before in
-    let l = c .before .before .before .before .before .before .before .before .before .before .before .before .before .before .before .before .before .loop in
-    growing-take (s .pre .1) (l .inv) (l .y - 1) (omega arith) (sym (c .before .before .before .before .before .before .before .before .before .before .before .before .before .before .before .hangs-at .ensures) ∙ c .before .before .before .before .before .before .before .before .before .before .before .before .before .before .if1 .taken) (c .before .before .before .before .before .before .before .before .before .before .before .write-tree .ensures)
-    (c .before .before .before .before .insert-tree .ensures)
-
-write-tree-loop-less-2 : (t : ℕ) → write-tree-lts.Need-loop-less-2 (
-  hangs-at-reads.Asked,
-  hangs-at-reads.Learnt,
-  write-tree-below t,
-  write-tree.Post,
-  insert-tree-reads.Asked,
-  insert-tree-reads.Learnt,
-) (write-tree-at t) write-tree.Post write-tree-Inv-loop write-tree-μ-loop
-write-tree-loop-less-2 t c = omega arith
-
-write-tree-loop-again-2 : (t : ℕ) → write-tree-lts.Need-loop-again-2 (
-  hangs-at-reads.Asked,
-  hangs-at-reads.Learnt,
-  write-tree-below t,
-  write-tree.Post,
-  insert-tree-reads.Asked,
-  insert-tree-reads.Learnt,
-) (write-tree-at t) write-tree.Post write-tree-Inv-loop write-tree-μ-loop
-write-tree-loop-again-2 t c =
-    let l = c .before .before .before .loop in
-    growing-skip (c .before .before .before .before .before .before .before .before .pre .1) (l .inv) (l .y - 1) (omega arith) (sym (c .before .hangs-at .ensures) ∙ c .if1 .left)
+    λ f a.
+    let l = c .before .before .before .before .before .before .before .before .before .before .before .before .before .before .before .before .loop in
+    let g = l .inv f a in
+    growing-take a g (l .y - 1) (omega arith) (c .before .before .before .before .before .before .before .before .before .before .before .before .write-tree .ensures f (growing-asked a g (l .y - 1) (omega arith)))
+    (c .before .before .before .before .before .insert-tree .ensures)
 
 write-tree-sub-numbers : (t : ℕ) → write-tree-lts.Need-sub-numbers (
-  hangs-at-reads.Asked,
-  hangs-at-reads.Learnt,
   write-tree-below t,
   write-tree.Post,
   insert-tree-reads.Asked,
   insert-tree-reads.Learnt,
 ) (write-tree-at t) write-tree.Post write-tree-Inv-loop write-tree-μ-loop
-write-tree-sub-numbers t c = omega (arith, growing-bound (c .before .before .before .before .before .before .pre .1) (c .before .loop .inv))
+write-tree-sub-numbers t c =
+    let a = c .before .before .before .before .before .before .before .pre .1 .asked in
+    omega (arith, growing-bound a (c .before .loop .inv _ a))
 
 write-tree-cast-numbers : (t : ℕ) → write-tree-lts.Need-cast-numbers (
-  hangs-at-reads.Asked,
-  hangs-at-reads.Learnt,
   write-tree-below t,
   write-tree.Post,
   insert-tree-reads.Asked,
   insert-tree-reads.Learnt,
 ) (write-tree-at t) write-tree.Post write-tree-Inv-loop write-tree-μ-loop
-write-tree-cast-numbers t c = omega (arith, growing-bound (c .before .before .before .before .before .before .pre .1) (c .before .loop .inv), c .before .before .before .before .before .before .pre .1 .prepared .small)
+write-tree-cast-numbers t c =
+    let a = c .before .before .before .before .before .before .before .pre .1 .asked in
+    omega (arith, growing-bound a (c .before .loop .inv _ a), a .prepared .small)
 
 write-tree-slice-write-numbers : (t : ℕ) → write-tree-lts.Need-slice-write-numbers (
-  hangs-at-reads.Asked,
-  hangs-at-reads.Learnt,
   write-tree-below t,
   write-tree.Post,
   insert-tree-reads.Asked,
   insert-tree-reads.Learnt,
 ) (write-tree-at t) write-tree.Post write-tree-Inv-loop write-tree-μ-loop
-write-tree-slice-write-numbers t c = omega (arith, growing-bound (c .before .before .before .before .before .before .pre .1) (c .before .loop .inv), growing-numbers (c .before .before .before .before .before .before .pre .1) (c .before .loop .inv))
+write-tree-slice-write-numbers t c =
+    let a = c .before .before .before .before .before .before .before .pre .1 .asked in
+    let g = c .before .loop .inv _ a in
+    omega (arith, growing-bound a g, growing-numbers a g)
 
 write-tree-cast-points : (t : ℕ) → write-tree-lts.Need-cast-points (
-  hangs-at-reads.Asked,
-  hangs-at-reads.Learnt,
   write-tree-below t,
   write-tree.Post,
   insert-tree-reads.Asked,
   insert-tree-reads.Learnt,
 ) (write-tree-at t) write-tree.Post write-tree-Inv-loop write-tree-μ-loop
-write-tree-cast-points t c = omega (arith, c .before .before .before .before .before .before .pre .1 .here, c .before .before .before .before .before .before .pre .1 .prepared .small)
+write-tree-cast-points t c = omega (arith, c .before .before .before .before .before .before .before .pre .1 .asked .here, c .before .before .before .before .before .before .before .pre .1 .asked .prepared .small)
 
 write-tree-slice-write-points : (t : ℕ) → write-tree-lts.Need-slice-write-points (
-  hangs-at-reads.Asked,
-  hangs-at-reads.Learnt,
   write-tree-below t,
   write-tree.Post,
   insert-tree-reads.Asked,
   insert-tree-reads.Learnt,
 ) (write-tree-at t) write-tree.Post write-tree-Inv-loop write-tree-μ-loop
-write-tree-slice-write-points t c = omega (arith, growing-bound (c .before .before .before .before .before .before .pre .1) (c .before .loop .inv), growing-labels (c .before .before .before .before .before .before .pre .1) (c .before .loop .inv))
+write-tree-slice-write-points t c =
+    let a = c .before .before .before .before .before .before .before .pre .1 .asked in
+    let g = c .before .loop .inv _ a in
+    omega (arith, growing-bound a g, growing-labels a g)
 
 write-tree-same-length : (t : ℕ) → write-tree-lts.Need-same-length (
-  hangs-at-reads.Asked,
-  hangs-at-reads.Learnt,
   write-tree-below t,
   write-tree.Post,
   insert-tree-reads.Asked,
   insert-tree-reads.Learnt,
 ) (write-tree-at t) write-tree.Post write-tree-Inv-loop write-tree-μ-loop
 write-tree-same-length t c =
-    let a = c .before .before .before .before .before .before .pre .1 in
+    let s = c .before .before .before .before .before .before .before in
     let l = c .before .loop in
-    length-set (l .numbers) (c .before .before .before .before .before .before .args .at) (l .end - c .before .before .before .before .before .before .args .at) ∙ growing-numbers a (l .inv) ∙ sym (a .prepared .numbers-room)
+    let a = s .pre .1 .asked in
+    length-set (l .numbers) (s .args .at) (l .end - s .args .at) ∙ growing-numbers a (l .inv _ a) ∙ sym (a .prepared .numbers-room)
 
 write-tree-same-length-2 : (t : ℕ) → write-tree-lts.Need-same-length-2 (
-  hangs-at-reads.Asked,
-  hangs-at-reads.Learnt,
   write-tree-below t,
   write-tree.Post,
   insert-tree-reads.Asked,
   insert-tree-reads.Learnt,
 ) (write-tree-at t) write-tree.Post write-tree-Inv-loop write-tree-μ-loop
 write-tree-same-length-2 t c =
-    let a = c .before .before .before .before .before .before .pre .1 in
+    let s = c .before .before .before .before .before .before .before in
     let l = c .before .loop in
-    length-set (l .points) (c .before .before .before .before .before .before .args .at) (c .before .before .before .before .before .before .args .x) ∙ growing-labels a (l .inv) ∙ sym (a .prepared .labels-room)
+    let a = s .pre .1 .asked in
+    length-set (l .points) (s .args .at) (s .args .x) ∙ growing-labels a (l .inv _ a) ∙ sym (a .prepared .labels-room)
 
 write-tree-returns : (t : ℕ) → write-tree-lts.Need-returns (
-  hangs-at-reads.Asked,
-  hangs-at-reads.Learnt,
   write-tree-below t,
   write-tree.Post,
   insert-tree-reads.Asked,
   insert-tree-reads.Learnt,
 ) (write-tree-at t) write-tree.Post write-tree-Inv-loop write-tree-μ-loop
-write-tree-returns t c = growing-end (c .before .before .before .before .before .before .pre .1) (c .before .loop .inv) (omega arith)
+write-tree-returns t c = λ f a. growing-end a (c .before .loop .inv f a) (omega arith)
 
 pub +write-tree-spec : {M : Type 1} → statement M
 +write-tree-spec = close μ-write-tree λ t. write-tree-lts.spec (
-  hangs-at-reads.Asked,
-  hangs-at-reads.Learnt,
   write-tree-below t,
   write-tree.Post,
   insert-tree-reads.Asked,
@@ -280,18 +263,19 @@ pub +write-tree-spec : {M : Type 1} → statement M
     write-tree-Inv-loop
     write-tree-μ-loop
     (write-tree-add-end t)
+    (write-tree-shared-slice-read-y t)
+    (write-tree-cast-y t)
     (write-tree-loop-holds t)
-    (write-tree-sub-y t)
-    (write-tree-hangs-at-requires t)
+    (write-tree-sub-z t)
     (write-tree-sub-write-tree t)
     (write-tree-sub-write-tree-2 t)
     (write-tree-write-tree-requires t)
     (write-tree-add-insert-tree t)
     (write-tree-insert-tree-requires t)
+    (write-tree-shared-slice-read-y-2 t)
+    (write-tree-cast-y-2 t)
     (write-tree-loop-less t)
     (write-tree-loop-again t)
-    (write-tree-loop-less-2 t)
-    (write-tree-loop-again-2 t)
     (write-tree-sub-numbers t)
     (write-tree-cast-numbers t)
     (write-tree-slice-write-numbers t)

@@ -21,24 +21,24 @@ part-least-start-end c = search needs
 
 least-start-requires : tie.Need-least-start-requires
 least-start-requires c κs =
-    let s = c .before .before .before .before .before .before .before .before .before .before .before .before .before in
+    let s = c .before .before .before .before .before .before .before .before .before .before .before .before .before .before in
     record { trees = map shape (plantsAlong (now (s .args .f)) (s .args .x)); is = written-part (s .pre) (c .before .before .before .before .before .before .write-cycle .ensures) }
 
 add-p : tie.Need-add-p
 add-p c =
-    let s = c .before .before .before .before .before .before .before .before .before .before .before .before .before .before in
+    let s = c .before .before .before .before .before .before .before .before .before .before .before .before .before .before .before in
     let w = c .before .before .before .before .before .before .before .write-cycle .ensures in
     omega (arith, turn-bound (s .pre) w (c .least-start .ensures _ (written-part (s .pre) w)), written-bound (s .pre) w, s .pre .prepared .small)
 
 exchange-requires : tie.Need-exchange-requires
 exchange-requires c κs =
-    let s = c .before .before .before .before .before .before .before .before .before .before .before .before .before .before .before in
+    let s = c .before .before .before .before .before .before .before .before .before .before .before .before .before .before .before .before in
     let w = c .before .before .before .before .before .before .before .before .write-cycle .ensures in
     turn-numbers (s .pre) w (c .before .least-start .ensures _ (written-part (s .pre) w))
 
 exchange-requires-2 : tie.Need-exchange-requires-2
 exchange-requires-2 c κs =
-    let s = c .before .before .before .before .before .before .before .before .before .before .before .before .before .before .before .before .before .before .before in
+    let s = c .before .before .before .before .before .before .before .before .before .before .before .before .before .before .before .before .before .before .before .before in
     let w = c .before .before .before .before .before .before .before .before .before .before .before .before .write-cycle .ensures in
     turn-labels (s .pre) w (c .before .before .before .before .before .least-start .ensures _ (written-part (s .pre) w))
 
@@ -50,7 +50,7 @@ same-length-2 c = search needs
 
 returns : tie.Need-returns
 returns c =
-    let s = c .before .before .before .before .before .before .before .before .before .before .before .before .before .before .before .before .before .before .before .before .before .before in
+    let s = c .before .before .before .before .before .before .before .before .before .before .before .before .before .before .before .before .before .before .before .before .before .before .before in
     let w = c .before .before .before .before .before .before .before .before .before .before .before .before .before .before .before .write-cycle .ensures in
     rw (c .before .before .before .before .before .before .exchange .ensures, c .before .before .exchange2 .ensures)
     (component-written (s .pre) w (c .before .before .before .before .before .before .before .before .least-start .ensures _ (written-part (s .pre) w)))

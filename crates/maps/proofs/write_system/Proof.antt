@@ -1,89 +1,74 @@
-use denote.Ref.{now}
-use mathlib.Core.Path.{sym, _∙_}
-use Prim.Native.Nat.{_-_}
-use Rattle.maps.proofs.Collecting.{Collecting, collecting-start, collecting-bound, collecting-numbers, collecting-labels, collecting-skip, collecting-asked, collecting-insert, collecting-take, collecting-end}
-use native.Mathlib.Omega.{arith}
+use mathlib.Core.Path.{sym}
+use mathlib.Core.List.{[]}
+use Rattle.maps.proofs.Linking.{links-places, links-asked, last-within, before-within, links-back}
 use borrow.Author.Needs.{needs}
 use Rattle.maps.proofs.write_system.Statement.{statement}
 use Rattle.maps.proofs.write_system.Tie as tie
 
-abbrev Inv-loop : tie.InvT-loop
-Inv-loop f marks sizes₀ numbers₀ points₀ m₀ end₀ x₀ sizes numbers points m end x = Collecting f numbers₀ points₀ x end m sizes numbers points
+links-room-requires : tie.Need-links-room-requires
+links-room-requires c κs = search needs
 
-abbrev μ-loop : tie.MeasureT-loop
-μ-loop f marks sizes₀ numbers₀ points₀ m₀ end₀ x₀ sizes numbers points m end x = x
+links-room-requires-2 : tie.Need-links-room-requires-2
+links-room-requires-2 c κs = search needs
 
-loop-holds : tie.Need-loop-holds Inv-loop μ-loop
-loop-holds c =
-    let a = c .before .before .before .before .before .args in
-    collecting-start (now (a .f)) (now (a .numbers)) (now (a .points)) (now (a .sizes)) (c .before .before .before .before .before .pre .sizes-room)
+array-borrow-prefix-last : tie.Need-array-borrow-prefix-last
+array-borrow-prefix-last c = search needs
 
-sub-x : tie.Need-sub-x Inv-loop μ-loop
-sub-x c = search needs
+slice-aggregate-link-branches : tie.Need-slice-aggregate-link-branches
+slice-aggregate-link-branches c = sym (links-places (c .before .before .before .before .before .before .before .before .pre) _ (c .before .before .links-room .ensures))
 
-leads-cycle-requires : tie.Need-leads-cycle-requires Inv-loop μ-loop
-leads-cycle-requires c κs =
-    let p = c .before .before .before .before .before .before .before .pre .prepared in
-    record { table = p .table; marked = p .marked; here = omega (arith, c .before .loop .inv .passed) }
+array-borrow-prefix-before : tie.Need-array-borrow-prefix-before
+array-borrow-prefix-before c = search needs
 
-write-component-requires : tie.Need-write-component-requires Inv-loop μ-loop
-write-component-requires c κs =
-    let l = c .before .before .before .before .before .loop in
-    collecting-asked (c .before .before .before .before .before .before .before .before .before .before .before .pre) (l .inv) (l .x - 1) (omega arith) (sym (c .before .before .before .leads-cycle .ensures) ∙ c .before .before .if1 .taken)
+slice-aggregate-link-branches-2 : tie.Need-slice-aggregate-link-branches-2
+slice-aggregate-link-branches-2 c = sym (links-places (c .before .before .before .before .before .before .before .before .before .pre) _ (c .before .before .links-room2 .ensures))
 
-insert-component-requires : tie.Need-insert-component-requires Inv-loop μ-loop
-insert-component-requires c κs =
-    let l = c .before .before .before .before .before .before .before .before .before .before .before .before .before .loop in
-    collecting-insert (c .before .before .before .before .before .before .before .before .before .before .before .before .before .before .before .before .before .before .before .pre) (l .inv) (l .x - 1) (omega arith) (sym (c .before .before .before .before .before .before .before .before .before .before .before .leads-cycle .ensures) ∙ c .before .before .before .before .before .before .before .before .before .before .if1 .taken) (c .before .before .before .before .before .before .before .write-component .ensures)
+link-branches-requires : tie.Need-link-branches-requires
+link-branches-requires c κs = links-asked (c .before .before .before .before .before .before .before .before .before .pre) _ _ (c .before .before .before .links-room .ensures) (c .before .before .links-room2 .ensures)
 
-add-m : tie.Need-add-m Inv-loop μ-loop
-add-m c = omega (arith, collecting-bound (c .before .before .before .before .before .before .before .before .before .before .before .before .before .before .before .before .before .before .before .before .before .before .before .before .before .before .pre) (c .before .before .before .before .before .before .before .before .before .before .before .before .before .before .before .before .before .before .before .before .loop .inv), c .before .before .before .before .before .before .before .before .before .before .before .before .before .before .before .before .before .before .before .before .before .before .before .before .before .before .pre .prepared .small)
+array-share-prefix-last : tie.Need-array-share-prefix-last
+array-share-prefix-last c = last-within (c .before .before .link-branches .ensures) _ []
 
-loop-less : tie.Need-loop-less Inv-loop μ-loop
-loop-less c = omega arith
+slice-aggregate-write-components : tie.Need-slice-aggregate-write-components
+slice-aggregate-write-components c = sym ((links-back (c .before .before .before .link-branches .ensures) _ []) .last-room)
 
-loop-again : tie.Need-loop-again Inv-loop μ-loop
-loop-again c =
-    let l = c .before .before .before .before .before .before .before .before .before .before .before .before .before .before .before .before .before .before .before .before .loop in
-    collecting-take (c .before .before .before .before .before .before .before .before .before .before .before .before .before .before .before .before .before .before .before .before .before .before .before .before .before .before .pre) (l .inv) (l .x - 1) (omega arith) (sym (c .before .before .before .before .before .before .before .before .before .before .before .before .before .before .before .before .before .before .leads-cycle .ensures) ∙ c .before .before .before .before .before .before .before .before .before .before .before .before .before .before .before .before .before .if1 .taken) (c .before .before .before .before .before .before .before .before .before .before .before .before .before .before .write-component .ensures)
-    (c .before .before .before .before .before .before .insert-component .kept .0) (c .before .before .before .before .before .before .insert-component .ensures)
+array-share-prefix-before : tie.Need-array-share-prefix-before
+array-share-prefix-before c = before-within (c .before .before .before .link-branches .ensures) [] _
 
-loop-less-2 : tie.Need-loop-less-2 Inv-loop μ-loop
-loop-less-2 c = omega arith
+slice-aggregate-write-components-2 : tie.Need-slice-aggregate-write-components-2
+slice-aggregate-write-components-2 c = sym ((links-back (c .before .before .before .before .link-branches .ensures) [] _) .before-room)
 
-loop-again-2 : tie.Need-loop-again-2 Inv-loop μ-loop
-loop-again-2 c =
-    let l = c .before .before .before .loop in
-    collecting-skip (c .before .before .before .before .before .before .before .before .before .pre) (l .inv) (l .x - 1) (omega arith) (sym (c .before .leads-cycle .ensures) ∙ c .if1 .left)
+write-components-requires : tie.Need-write-components-requires
+write-components-requires c κs = record { asked = c .before .before .before .before .before .before .before .before .before .before .before .before .before .before .before .before .before .pre; links = links-back (c .before .before .before .before .before .before .before .link-branches .ensures) _ _ }
 
-same-length : tie.Need-same-length Inv-loop μ-loop
-same-length c = c .before .loop .inv .sizes-room ∙ sym (c .before .before .before .before .before .before .before .pre .sizes-room)
+same-length : tie.Need-same-length
+same-length c = search needs
 
-same-length-2 : tie.Need-same-length-2 Inv-loop μ-loop
-same-length-2 c = collecting-numbers (c .before .before .before .before .before .before .before .pre) (c .before .loop .inv) ∙ sym (c .before .before .before .before .before .before .before .pre .prepared .numbers-room)
+same-length-2 : tie.Need-same-length-2
+same-length-2 c = search needs
 
-same-length-3 : tie.Need-same-length-3 Inv-loop μ-loop
-same-length-3 c = collecting-labels (c .before .before .before .before .before .before .before .pre) (c .before .loop .inv) ∙ sym (c .before .before .before .before .before .before .before .pre .prepared .labels-room)
+same-length-3 : tie.Need-same-length-3
+same-length-3 c = search needs
 
-returns : tie.Need-returns Inv-loop μ-loop
-returns c = collecting-end (c .before .before .before .before .before .before .before .pre) (c .before .loop .inv) (omega arith)
+returns : tie.Need-returns
+returns c = search needs
 
 pub write-system-spec : {M : Type 1} → statement M
 write-system-spec =
     tie.close
     (tie.spec
-    Inv-loop
-    μ-loop
-    loop-holds
-    sub-x
-    leads-cycle-requires
-    write-component-requires
-    insert-component-requires
-    add-m
-    loop-less
-    loop-again
-    loop-less-2
-    loop-again-2
+    links-room-requires
+    links-room-requires-2
+    array-borrow-prefix-last
+    slice-aggregate-link-branches
+    array-borrow-prefix-before
+    slice-aggregate-link-branches-2
+    link-branches-requires
+    array-share-prefix-last
+    slice-aggregate-write-components
+    array-share-prefix-before
+    slice-aggregate-write-components-2
+    write-components-requires
     same-length
     same-length-2
     same-length-3

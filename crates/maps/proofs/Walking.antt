@@ -7,14 +7,14 @@ use Prim.Native.Nat.{ℕ, zero, suc, _+_, _≤_, _<_}
 use native.Mathlib.Omega.{arith}
 use native.Mathlib.Numerals.{add-one}
 use lib.Dec.{leb, ltb}
-use borrow.Author.Tests.{leb-true, leb-false, ltb-true, ltb-false}
+use borrow.Author.Tests.{leb-true, leb-false, lt-ltb, ltb-true, ltb-false}
 use lib.ListN.{length}
 use Rattle.lists.proofs.Tests.{by-test, either, is-false, no-both}
 use Rattle.lists.proofs.Members.{in-cons-cases, in-list, in-moved}
 use Rattle.patterns.specs.Table.{orbit, onCycle, cycleFrom, leadsCycle}
 use Rattle.maps.proofs.Orbits.{iterate, iterate-suc, of-orbit, orbit-length}
 use Rattle.maps.proofs.Leaders.{Period, cycle-period, in-cycle, leads-onCycle, leads-least, least-leads}
-use Rattle.census.specs.Counts.{lengthLed}
+use Rattle.maps.specs.Marks.{lengthLed}
 
 -- y comes k steps after x, x has not come back before, and none before is less than x
 pub record Walking (n : ℕ) (f : ℕ → ℕ) (x k y : ℕ) : Type 0 where
@@ -108,3 +108,11 @@ unfolding lengthLed
 off-leads-none n f x e =
     let q : leadsCycle n f x ≡ false = is-false (leadsCycle n f x) (λ t. no-both (leads-onCycle n f x t) e) in
     rw q
+
+-- the cycle that a point leads has points, and there is none where it leads none
+pub leads-length : (n : ℕ) (f : ℕ → ℕ) (x : ℕ) → ltb 0 (lengthLed n f x) ≡ leadsCycle n f x
+unfolding lengthLed cycleFrom
+leads-length n f x =
+    by-test (leadsCycle n f x)
+    (λ t. rw t (lt-ltb 0 (length (cycleFrom n f x)) (omega arith)))
+    (λ t. rw t)

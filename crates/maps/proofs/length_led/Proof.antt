@@ -5,10 +5,10 @@ use native.Mathlib.Omega.{arith}
 use borrow.Author.Needs.{needs}
 use lib.ListN.{length}
 use Rattle.patterns.specs.Table.{image}
-use Rattle.census.proofs.Points.{inside, unmarked, marked}
-use Rattle.census.proofs.Walking.{Walking, walking-start, walking-bound, walking-next, walking-less, walking-end, off-leads-none}
-use Rattle.census.proofs.length_led.Statement.{statement}
-use Rattle.census.proofs.length_led.Tie as tie
+use Rattle.maps.proofs.Marks.{inside, marks-off, marks-on}
+use Rattle.maps.proofs.Walking.{Walking, walking-start, walking-bound, walking-next, walking-less, walking-end, off-leads-none}
+use Rattle.maps.proofs.length_led.Statement.{statement}
+use Rattle.maps.proofs.length_led.Tie as tie
 
 abbrev Inv-loop : tie.InvT-loop
 Inv-loop f marks x length₀ y₀ k y = Walking (length f) (image f) x k y
@@ -23,7 +23,7 @@ returns : tie.Need-returns Inv-loop μ-loop
 returns c =
     let a = c .before .before .args in
     let p = c .before .before .pre in
-    sym (off-leads-none (length (now (a .f))) (image (now (a .f))) (a .x) (unmarked (p .marked) (a .x) (p .here) (c .if1 .taken)))
+    sym (off-leads-none (length (now (a .f))) (image (now (a .f))) (a .x) (marks-off (p .marked) (p .here) (c .if1 .taken)))
 
 shared-slice-read-y : tie.Need-shared-slice-read-y Inv-loop μ-loop
 shared-slice-read-y c = search needs
@@ -35,7 +35,7 @@ loop-holds : tie.Need-loop-holds Inv-loop μ-loop
 loop-holds c =
     let a = c .before .before .before .args in
     let p = c .before .before .before .pre in
-    walking-start (length (now (a .f))) (image (now (a .f))) (inside (now (a .f)) (p .table)) (a .x) (p .here) (marked (p .marked) (a .x) (p .here) (c .before .if1 .left))
+    walking-start (length (now (a .f))) (image (now (a .f))) (inside (now (a .f)) (p .table)) (a .x) (p .here) (marks-on (p .marked) (p .here) (c .before .if1 .left))
 
 returns-2 : tie.Need-returns-2 Inv-loop μ-loop
 returns-2 c =

@@ -1,0 +1,91 @@
+use denote.Ref.{now}
+use mathlib.Core.Path.{sym, _∙_}
+use Prim.Native.Nat.{_-_}
+use Rattle.maps.proofs.Collecting.{Collecting, collecting-start, collecting-bound, collecting-numbers, collecting-labels, collecting-skip, collecting-asked, collecting-insert, collecting-take, collecting-end}
+use native.Mathlib.Omega.{arith}
+use borrow.Author.Needs.{needs}
+use Rattle.maps.proofs.write_components.Statement.{statement}
+use Rattle.maps.proofs.write_components.Tie as tie
+
+abbrev Inv-loop : tie.InvT-loop
+Inv-loop f marks last before sizes₀ numbers₀ points₀ m₀ end₀ x₀ sizes numbers points m end x = Collecting f numbers₀ points₀ x end m sizes numbers points
+
+abbrev μ-loop : tie.MeasureT-loop
+μ-loop f marks last before sizes₀ numbers₀ points₀ m₀ end₀ x₀ sizes numbers points m end x = x
+
+loop-holds : tie.Need-loop-holds Inv-loop μ-loop
+loop-holds c =
+    let a = c .before .before .before .before .before .before .before .args in
+    collecting-start (now (a .f)) (now (a .numbers)) (now (a .points)) (now (a .sizes)) (c .before .before .before .before .before .before .before .pre .asked .sizes-room)
+
+sub-x : tie.Need-sub-x Inv-loop μ-loop
+sub-x c = search needs
+
+leads-cycle-requires : tie.Need-leads-cycle-requires Inv-loop μ-loop
+leads-cycle-requires c κs =
+    let p = c .before .before .before .before .before .before .before .before .before .pre .asked in
+    record { table = p .prepared .table; marked = p .marked; here = omega (arith, c .before .loop .inv .passed) }
+
+write-component-requires : tie.Need-write-component-requires Inv-loop μ-loop
+write-component-requires c κs =
+    let l = c .before .before .before .before .before .loop in
+    let p = c .before .before .before .before .before .before .before .before .before .before .before .before .before .pre in
+    collecting-asked (p .asked) (l .inv) (l .x - 1) (omega arith) (sym (c .before .before .before .leads-cycle .ensures) ∙ c .before .before .if1 .taken) (p .links)
+
+insert-component-requires : tie.Need-insert-component-requires Inv-loop μ-loop
+insert-component-requires c κs =
+    let l = c .before .before .before .before .before .before .before .before .before .before .before .before .before .loop in
+    collecting-insert (c .before .before .before .before .before .before .before .before .before .before .before .before .before .before .before .before .before .before .before .before .before .pre .asked) (l .inv) (l .x - 1) (omega arith) (sym (c .before .before .before .before .before .before .before .before .before .before .before .leads-cycle .ensures) ∙ c .before .before .before .before .before .before .before .before .before .before .if1 .taken) (c .before .before .before .before .before .before .before .write-component .ensures)
+
+add-m : tie.Need-add-m Inv-loop μ-loop
+add-m c = omega (arith, collecting-bound (c .before .before .before .before .before .before .before .before .before .before .before .before .before .before .before .before .before .before .before .before .before .before .before .before .before .before .before .before .pre .asked) (c .before .before .before .before .before .before .before .before .before .before .before .before .before .before .before .before .before .before .before .before .loop .inv), c .before .before .before .before .before .before .before .before .before .before .before .before .before .before .before .before .before .before .before .before .before .before .before .before .before .before .before .before .pre .asked .prepared .small)
+
+loop-less : tie.Need-loop-less Inv-loop μ-loop
+loop-less c = omega arith
+
+loop-again : tie.Need-loop-again Inv-loop μ-loop
+loop-again c =
+    let l = c .before .before .before .before .before .before .before .before .before .before .before .before .before .before .before .before .before .before .before .before .loop in
+    collecting-take (c .before .before .before .before .before .before .before .before .before .before .before .before .before .before .before .before .before .before .before .before .before .before .before .before .before .before .before .before .pre .asked) (l .inv) (l .x - 1) (omega arith) (sym (c .before .before .before .before .before .before .before .before .before .before .before .before .before .before .before .before .before .before .leads-cycle .ensures) ∙ c .before .before .before .before .before .before .before .before .before .before .before .before .before .before .before .before .before .if1 .taken) (c .before .before .before .before .before .before .before .before .before .before .before .before .before .before .write-component .ensures)
+    (c .before .before .before .before .before .before .insert-component .kept .0) (c .before .before .before .before .before .before .insert-component .ensures)
+
+loop-less-2 : tie.Need-loop-less-2 Inv-loop μ-loop
+loop-less-2 c = omega arith
+
+loop-again-2 : tie.Need-loop-again-2 Inv-loop μ-loop
+loop-again-2 c =
+    let l = c .before .before .before .loop in
+    collecting-skip (c .before .before .before .before .before .before .before .before .before .before .before .pre .asked) (l .inv) (l .x - 1) (omega arith) (sym (c .before .leads-cycle .ensures) ∙ c .if1 .left)
+
+same-length : tie.Need-same-length Inv-loop μ-loop
+same-length c = c .before .loop .inv .sizes-room ∙ sym (c .before .before .before .before .before .before .before .before .before .pre .asked .sizes-room)
+
+same-length-2 : tie.Need-same-length-2 Inv-loop μ-loop
+same-length-2 c = collecting-numbers (c .before .before .before .before .before .before .before .before .before .pre .asked) (c .before .loop .inv) ∙ sym (c .before .before .before .before .before .before .before .before .before .pre .asked .prepared .numbers-room)
+
+same-length-3 : tie.Need-same-length-3 Inv-loop μ-loop
+same-length-3 c = collecting-labels (c .before .before .before .before .before .before .before .before .before .pre .asked) (c .before .loop .inv) ∙ sym (c .before .before .before .before .before .before .before .before .before .pre .asked .prepared .labels-room)
+
+returns : tie.Need-returns Inv-loop μ-loop
+returns c = collecting-end (c .before .before .before .before .before .before .before .before .before .pre .asked) (c .before .loop .inv) (omega arith)
+
+pub write-components-spec : {M : Type 1} → statement M
+write-components-spec =
+    tie.close
+    (tie.spec
+    Inv-loop
+    μ-loop
+    loop-holds
+    sub-x
+    leads-cycle-requires
+    write-component-requires
+    insert-component-requires
+    add-m
+    loop-less
+    loop-again
+    loop-less-2
+    loop-again-2
+    same-length
+    same-length-2
+    same-length-3
+    returns)
