@@ -2,6 +2,7 @@
 // given. A reader is a code and a position. The functions over it are thin: what they answer is found by functions on a slice and a number.
 use components::count;
 use patterns::Refusal;
+use patterns::points_room;
 use reading::Accepted;
 use reading::accept_into;
 ghost use denote.Ref.{now};
@@ -18,13 +19,6 @@ ghost use Rattle.component_reader.specs.Stretch.{partAnswer, partAnswere
 pub enum Stretch {
     Part(usize, usize),
     Refused(Refusal),
-}
-
-// Room for a number for each point.
-fn points_room() -> [u8; 200]
-    ensures { λ r. ⌜ length r ≡ 200 ⌝ }
-{
-    [0u8; 200]
 }
 
 // How many bytes a number takes.

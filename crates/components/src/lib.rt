@@ -2,6 +2,7 @@
 use lists::Order;
 use lists::compare;
 use lists::exchange;
+use patterns::points_room;
 ghost use denote.Ref.{now};
 ghost use mathlib.Core.Path.{_≡_};
 ghost use mathlib.Core.Bool.{not, true, cond};
@@ -260,12 +261,6 @@ pub fn path_of(s: &[u8], work: &mut [u8], keys: &mut [u16]) -> usize
     path_into(work, keys)
 }
 
-fn blank() -> [u8; 200]
-    ensures { λ r. ⌜ length r ≡ 200 ⌝ }
-{
-    [0u8; 200]
-}
-
 fn blank_keys() -> [u16; 200]
     ensures { λ r. ⌜ length r ≡ 200 ⌝ }
 {
@@ -278,7 +273,7 @@ pub fn compare_generated(a: &[u8], b: &[u8]) -> Order
     ensures { λ r. ⌜ ((c d : Component) → now (a .entry) ≡ flat c → now (b .entry) ≡ flat d → orderingOf r ≡ compareGenerated c d) ⌝ }
 {
     let n = a.len();
-    let mut work = blank();
+    let mut work = points_room();
     let mut first = blank_keys();
     let mut second = blank_keys();
     let i = path_of(a, &mut work[..n], &mut first[..n]);

@@ -9,6 +9,7 @@ use lists::compare;
 use maps::map_of;
 use maps::mark_cycles;
 use patterns::Refusal;
+use patterns::points_room;
 use reading::Accepted;
 use reading::accept_into;
 pub use reply::Census;
@@ -37,13 +38,6 @@ ghost use Rattle.engine.specs.Answers.{successorAnswer, isomorphismAnswe
 ghost use Rattle.engine.specs.Memory.{HeldNext};
 ghost use Rattle.engine.specs.Tables.{tableReply, Table, CodeAsked, CodeWritten, Matched, Sends, SendsPut, SameLength};
 ghost use Rattle.engine.specs.Rows.{RowsPut, RowsReplied};
-
-// Room for a number for each point.
-fn points_room() -> [u8; 200]
-    ensures { λ r. ⌜ length r ≡ 200 ⌝ }
-{
-    [0u8; 200]
-}
 
 // Room for every written code.
 fn code_room() -> [u8; 1000]

@@ -7,6 +7,7 @@ use lists::Order;
 use lists::compare;
 use lists::exchange;
 use lists::set_all;
+use patterns::points_room;
 ghost use denote.Ref.{now};
 ghost use mathlib.Core.Path.{_≡_};
 ghost use mathlib.Core.Bool.{true, cond};
@@ -29,13 +30,6 @@ ghost use Rattle.maps.specs.Writing.{pointsBefore, RowStands, Inserts, T
 ghost use Rattle.maps.specs.Systems.{BothValid, PlaceAsked, PlaceFound, InsertAsked, ComponentInserted, SystemAsked, ComponentsAsked, SystemWritten};
 ghost use Rattle.maps.specs.Links.{LinksAsked, Links};
 ghost use Rattle.maps.specs.Marks.{lengthLed, MarksAsked, Images, Far, Marked, MarkedPoint};
-
-// Room for a number for each point.
-fn points_room() -> [u8; 200]
-    ensures { λ r. ⌜ length r ≡ 200 ⌝ }
-{
-    [0u8; 200]
-}
 
 // `out` is the table of two steps of the table `s`.
 fn square(s: &[u8], out: &mut [u8])
@@ -371,13 +365,6 @@ fn write_components(
     m
 }
 
-// Room for a link for each point.
-fn links_room() -> [u8; 200]
-    ensures { λ r. ⌜ length r ≡ 200 ⌝ }
-{
-    [0u8; 200]
-}
-
 // Writes the system of the table, its sizes, its numbers and beside them its points, and answers how many components it has.
 pub fn write_system(
     f: &[u8],
@@ -390,8 +377,8 @@ pub fn write_system(
     ensures { λ r. ⌜ SystemWritten (now (f .entry)) r (now (sizes .exit)) (now (numbers .exit)) (now (points .exit)) ⌝ }
 {
     let n = f.len();
-    let mut last = links_room();
-    let mut before = links_room();
+    let mut last = points_room();
+    let mut before = points_room();
     link_branches(f, marks, &mut last[..n], &mut before[..n]);
     write_components(f, marks, &last[..n], &before[..n], sizes, numbers, points)
 }

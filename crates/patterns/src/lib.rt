@@ -1,5 +1,6 @@
-// The causes of a refusal [document 01, "Refusing"], with the numbers that document 01 gives them.
+// The causes of a refusal [document 01, "Refusing"], with the numbers that document 01 gives them, and room for the numbers of the largest map.
 ghost use mathlib.Core.Path.{_≡_};
+ghost use lib.ListN.{length};
 ghost use Rattle.patterns.specs.Entry.{numberOf};
 
 pub enum Refusal {
@@ -29,4 +30,11 @@ pub fn number(cause: Refusal) -> u8
         Refusal::Room => 8,
         Refusal::Position => 9,
     }
+}
+
+// Room for a number for each point of a map: at most 200.
+pub fn points_room() -> [u8; 200]
+    ensures { λ r. ⌜ length r ≡ 200 ⌝ }
+{
+    [0u8; 200]
 }

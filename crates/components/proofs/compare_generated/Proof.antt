@@ -11,8 +11,8 @@ use Rattle.components.proofs.Tracing.{lent-length, back-length, back-pa
 use Rattle.components.proofs.compare_generated.Statement.{statement}
 use Rattle.components.proofs.compare_generated.Tie as tie
 
-blank-requires : tie.Need-blank-requires
-blank-requires c κs = search needs
+points-room-requires : tie.Need-points-room-requires
+points-room-requires c κs = search needs
 
 blank-keys-requires : tie.Need-blank-keys-requires
 blank-keys-requires c κs = search needs
@@ -28,7 +28,7 @@ slice-aggregate-path-of c =
     let work = c .before .before .before in
     let start = work .before .before .before in
     let n = length (now (start .args .a)) in
-    sym (lent-length (work .blank .result) n (omega arith))
+    sym (lent-length (work .points-room .result) n (omega arith))
 
 array-borrow-prefix-first : tie.Need-array-borrow-prefix-first
 array-borrow-prefix-first c = search needs
@@ -49,7 +49,7 @@ path-of-requires c κs =
     record {
       trees = start .pre .left;
       is = start .pre .left-is;
-      room = lent-length (work .blank .result) n (omega arith);
+      room = lent-length (work .points-room .result) n (omega arith);
       key-room = lent-length (keys .blank-keys .result) n (omega arith);
       small = start .pre .small;
     }
@@ -60,7 +60,7 @@ array-borrow-prefix-work-2 c =
     let work = one .before .before .before .before .before in
     let start = work .before .before .before in
     let n = length (now (start .args .a)) in
-    rw (back-length (work .blank .result) n (omega arith) (one .path-of .last .1 .0) (one .path-of .kept .1 .0)) (omega arith)
+    rw (back-length (work .points-room .result) n (omega arith) (one .path-of .last .1 .0) (one .path-of .kept .1 .0)) (omega arith)
 
 slice-aggregate-path-of-3 : tie.Need-slice-aggregate-path-of-3
 slice-aggregate-path-of-3 c =
@@ -68,7 +68,7 @@ slice-aggregate-path-of-3 c =
     let work = one .before .before .before .before .before in
     let start = work .before .before .before in
     let n = length (now (start .args .a)) in
-    sym (lent-length (one .path-of .last .1 .0 ++ drop n (work .blank .result)) n (rw (back-length (work .blank .result) n (omega arith) (one .path-of .last .1 .0) (one .path-of .kept .1 .0)) (omega arith)))
+    sym (lent-length (one .path-of .last .1 .0 ++ drop n (work .points-room .result)) n (rw (back-length (work .points-room .result) n (omega arith) (one .path-of .last .1 .0) (one .path-of .kept .1 .0)) (omega arith)))
 
 array-borrow-prefix-second : tie.Need-array-borrow-prefix-second
 array-borrow-prefix-second c = search needs
@@ -92,8 +92,8 @@ path-of-requires-2 c κs =
       trees = start .pre .right;
       is = start .pre .right-is;
       room =
-          lent-length (one .path-of .last .1 .0 ++ drop n (work .blank .result)) n
-          (rw (back-length (work .blank .result) n (omega arith) (one .path-of .last .1 .0) (one .path-of .kept .1 .0)) (omega arith)) ∙ e;
+          lent-length (one .path-of .last .1 .0 ++ drop n (work .points-room .result)) n
+          (rw (back-length (work .points-room .result) n (omega arith) (one .path-of .last .1 .0) (one .path-of .kept .1 .0)) (omega arith)) ∙ e;
       key-room = lent-length (keys .blank-keys2 .result) n (omega arith) ∙ e;
       small = rw (sym e) (start .pre .small);
     }
@@ -208,7 +208,7 @@ pub compare-generated-spec : {M : Type 1} → statement M
 compare-generated-spec =
     tie.close
     (tie.spec
-    blank-requires
+    points-room-requires
     blank-keys-requires
     blank-keys-requires-2
     array-borrow-prefix-work

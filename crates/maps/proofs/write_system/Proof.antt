@@ -5,26 +5,26 @@ use borrow.Author.Needs.{needs}
 use Rattle.maps.proofs.write_system.Statement.{statement}
 use Rattle.maps.proofs.write_system.Tie as tie
 
-links-room-requires : tie.Need-links-room-requires
-links-room-requires c κs = search needs
+points-room-requires : tie.Need-points-room-requires
+points-room-requires c κs = search needs
 
-links-room-requires-2 : tie.Need-links-room-requires-2
-links-room-requires-2 c κs = search needs
+points-room-requires-2 : tie.Need-points-room-requires-2
+points-room-requires-2 c κs = search needs
 
 array-borrow-prefix-last : tie.Need-array-borrow-prefix-last
 array-borrow-prefix-last c = search needs
 
 slice-aggregate-link-branches : tie.Need-slice-aggregate-link-branches
-slice-aggregate-link-branches c = sym (links-places (c .before .before .before .before .before .before .before .before .pre) _ (c .before .before .links-room .ensures))
+slice-aggregate-link-branches c = sym (links-places (c .before .before .before .before .before .before .before .before .pre) _ (c .before .before .points-room .ensures))
 
 array-borrow-prefix-before : tie.Need-array-borrow-prefix-before
 array-borrow-prefix-before c = search needs
 
 slice-aggregate-link-branches-2 : tie.Need-slice-aggregate-link-branches-2
-slice-aggregate-link-branches-2 c = sym (links-places (c .before .before .before .before .before .before .before .before .before .pre) _ (c .before .before .links-room2 .ensures))
+slice-aggregate-link-branches-2 c = sym (links-places (c .before .before .before .before .before .before .before .before .before .pre) _ (c .before .before .points-room2 .ensures))
 
 link-branches-requires : tie.Need-link-branches-requires
-link-branches-requires c κs = links-asked (c .before .before .before .before .before .before .before .before .before .pre) _ _ (c .before .before .before .links-room .ensures) (c .before .before .links-room2 .ensures)
+link-branches-requires c κs = links-asked (c .before .before .before .before .before .before .before .before .before .pre) _ _ (c .before .before .before .points-room .ensures) (c .before .before .points-room2 .ensures)
 
 array-share-prefix-last : tie.Need-array-share-prefix-last
 array-share-prefix-last c = last-within (c .before .before .link-branches .ensures) _ []
@@ -57,8 +57,8 @@ pub write-system-spec : {M : Type 1} → statement M
 write-system-spec =
     tie.close
     (tie.spec
-    links-room-requires
-    links-room-requires-2
+    points-room-requires
+    points-room-requires-2
     array-borrow-prefix-last
     slice-aggregate-link-branches
     array-borrow-prefix-before
