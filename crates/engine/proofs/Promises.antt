@@ -19,8 +19,8 @@ use Rattle.engine.proofs.map_of_code.Reads as map-of-code
 use Rattle.engine.proofs.map_of_code.Kinds as map-of-code-kinds
 use Rattle.engine.proofs.isomorphism.Reads as isomorphism
 use Rattle.engine.proofs.isomorphism.Kinds as isomorphism-kinds
-use Rattle.engine.proofs.census.Reads as census
-use Rattle.engine.proofs.census.Kinds as census-kinds
+use Rattle.engine.proofs.census_columns.Reads as census-columns
+use Rattle.engine.proofs.census_columns.Kinds as census-columns-kinds
 
 -- `accept`: the reply
 pub accept-promise : (κs : Lfts 1) (a : Dens κs accept-kinds.ps) (r : _) (s : _) → accept.Post κs a r s → answerOf r ≡ acceptOf (now (a .0))
@@ -51,7 +51,7 @@ pub isomorphism-promise : (κs : Lfts 3) (a : Dens κs isomorphism-kinds.ps) (r 
     → IsomorphismReplied (now (a .0)) (now (a .1 .0)) (now (a .1 .1 .0)) (isomorphismAnswer r) (now (s .1 .1 .0))
 isomorphism-promise κs a r s p = p
 
--- `census`
-pub census-promise : (κs : Lfts 3) (a : Dens κs census-kinds.ps) (r : _) (s : _) → census.Post κs a r s
+-- `census_columns`
+pub census-columns-promise : (κs : Lfts 3) (a : Dens κs census-columns-kinds.ps) (r : _) (s : _) → census-columns.Post κs a r s
     → RowsReplied (now (a .0)) (now (a .1 .0)) (now (a .1 .1 .0)) (censusAnswer r) (now (s .1 .0)) (now (s .1 .1 .0))
-census-promise κs a r s p = p
+census-columns-promise κs a r s p = p

@@ -2,8 +2,10 @@
 // buffer are those of the definitions [crates/patterns/specs/Entry.antt].
 mod reply;
 
+pub use census::Row;
 use census::Rows;
 use census::census as census_of;
+use census::fill;
 use lists::Order;
 use lists::compare;
 use maps::map_of;
@@ -22,6 +24,7 @@ use written::Reply;
 use written::put;
 ghost use denote.Ref.{now};
 ghost use mathlib.Core.Path.{_≡_};
+ghost use mathlib.Core.List.{map};
 ghost use Prim.Native.Nat.{_≤_};
 ghost use lib.ListN.{length, take};
 ghost use Rattle.lists.specs.Select.{next};
@@ -30,13 +33,15 @@ ghost use Rattle.patterns.specs.Written.{written as writtenOf};
 ghost use Rattle.patterns.specs.MapOf.{mapOf};
 ghost use Rattle.patterns.specs.Table.{systemOfTable};
 ghost use Rattle.patterns.specs.Entry.{Replied, Outcome.gives, listed, checkedTable};
-ghost use Rattle.patterns.specs.Entry.{acceptOf, firstOf, successorOf, mapOfCode, codeOfMap, IsomorphismReplied};
+ghost use Rattle.patterns.specs.Entry.{acceptOf, firstOf, successorOf, mapOfCode, codeOfMap, IsomorphismReplied, CensusReplied};
 ghost use Rattle.written.specs.Putting.{answerOf};
 ghost use Rattle.reading.specs.Held.{Holds, HeldSystem};
 ghost use Rattle.engine.specs.Answers.{successorAnswer, isomorphismAnswer, censusAnswer};
 ghost use Rattle.engine.specs.Memory.{HeldNext};
 ghost use Rattle.engine.specs.Tables.{tableReply, Table, CodeAsked, CodeWritten, Matched, Sends, SendsPut, SameLength};
+ghost use Rattle.census.specs.Entries.{rowOf};
 ghost use Rattle.engine.specs.Rows.{RowsPut, RowsReplied};
+ghost use Rattle.engine.specs.Decisions.{Refuses, RowsDecided, Decided};
 
 // Room for a number for each point.
 fn points_room() -> [u8; 200]
@@ -317,12 +322,72 @@ fn put_rows(rows: Rows, lengths: &mut [u8], counts: &mut [u8]) -> Census
     Census::Counted(n, rows.height, rows.longest)
 }
 
-// Writes the census of the map `table`: row i is a cycle length in `lengths` and the number of such cycles beside it in `counts`.
-pub fn census(table: &[u8], lengths: &mut [u8], counts: &mut [u8]) -> Census
+// Writes the census of the map `table` in two columns: row i is a cycle length in `lengths` and the number of such cycles beside it in `counts`.
+pub fn census_columns(table: &[u8], lengths: &mut [u8], counts: &mut [u8]) -> Census
     ensures { λ r. ⌜ RowsReplied (now (table .entry)) (now (lengths .entry)) (now (counts .entry)) (censusAnswer r) (now (lengths .exit)) (now (counts .exit)) ⌝ }
 {
     match check_table(table) {
         Reply::Refused(cause) => Census::Refused(cause),
         Reply::Length(_) => put_rows(census_of(table), lengths, counts),
     }
+}
+
+// What the census entry does: the first `filled` of the rows are written, and `reply` is answered.
+struct Decision {
+    rows: Rows,
+    filled: usize,
+    reply: Census,
+}
+
+// A refusal: nothing is written.
+fn refuse(cause: Refusal) -> Decision
+    ensures { λ d. ⌜ Refuses cause d ⌝ }
+{
+    let rows = Rows {
+        lengths: [0u8; 19],
+        counts: [0u8; 19],
+        rows: 0,
+        height: 0,
+        longest: 0,
+    };
+    Decision {
+        rows,
+        filled: 0,
+        reply: Census::Refused(cause),
+    }
+}
+
+// All rows where they have room in `places` places, and a refusal where they have not.
+fn decide_rows(rows: Rows, places: usize) -> Decision
+    ensures { λ d. ⌜ RowsDecided rows places d ⌝ }
+{
+    let n = rows.rows;
+    if places < n {
+        return refuse(Refusal::Room);
+    }
+    let reply = Census::Counted(n, rows.height, rows.longest);
+    Decision {
+        rows,
+        filled: n,
+        reply,
+    }
+}
+
+// What the census entry does for a list of `places` places.
+fn decide(table: &[u8], places: usize) -> Decision
+    ensures { λ d. ⌜ Decided (now (table .entry)) places d ⌝ }
+{
+    match check_table(table) {
+        Reply::Refused(cause) => refuse(cause),
+        Reply::Length(_) => decide_rows(census_of(table), places),
+    }
+}
+
+// Writes the census of the map `table` into the lent list: each entry is a cycle length and the number of such cycles.
+pub fn census(table: &[u8], rows: &mut [Row]) -> Census
+    ensures { λ r. ⌜ CensusReplied (now (table .entry)) (map rowOf (now (rows .entry))) (censusAnswer r) (map rowOf (now (rows .exit))) ⌝ }
+{
+    let decision = decide(table, rows.len());
+    fill(rows, decision.rows, decision.filled);
+    decision.reply
 }
