@@ -25,7 +25,7 @@ use written::put;
 ghost use denote.Ref.{now};
 ghost use mathlib.Core.Path.{_≡_};
 ghost use mathlib.Core.List.{map};
-ghost use Prim.Native.Nat.{_≤_};
+ghost use Prim.Native.Nat.{_≤_, min};
 ghost use lib.ListN.{length, take};
 ghost use Rattle.lists.specs.Select.{next};
 ghost use Rattle.patterns.specs.System.{System, weight, codes, compareSystem};
@@ -40,7 +40,7 @@ ghost use Rattle.engine.specs.Answers.{successorAnswer, isomorphismAnswe
 ghost use Rattle.engine.specs.Memory.{HeldNext};
 ghost use Rattle.engine.specs.Tables.{tableReply, Table, CodeAsked, CodeWritten, Matched, Sends, SendsPut, SameLength};
 ghost use Rattle.census.specs.Entries.{rowOf};
-ghost use Rattle.engine.specs.Rows.{RowsPut, RowsReplied};
+ghost use Rattle.engine.specs.Rows.{ColumnsPut, RowsReplied};
 ghost use Rattle.engine.specs.Decisions.{Refuses, RowsDecided, Decided};
 
 // Room for a number for each point.
@@ -301,38 +301,7 @@ pub fn isomorphism(f: &[u8], g: &[u8], out: &mut [u8]) -> Isomorphism
     }
 }
 
-// Puts the rows of a census into the first places of both slices, where both have room for them.
-fn put_rows(rows: Rows, lengths: &mut [u8], counts: &mut [u8]) -> Census
-    requires { ⌜ rows .rows ≤ 19 ⌝ }
-    ensures { λ r. ⌜ RowsPut rows (now (lengths .entry)) (now (counts .entry)) r (now (lengths .exit)) (now (counts .exit)) ⌝ }
-{
-    let n = rows.rows;
-    if lengths.len() < n {
-        return Census::Refused(Refusal::Room);
-    }
-    if counts.len() < n {
-        return Census::Refused(Refusal::Room);
-    }
-    let mut i = 0;
-    while i < n {
-        lengths[i] = rows.lengths[i];
-        counts[i] = rows.counts[i];
-        i += 1;
-    }
-    Census::Counted(n, rows.height, rows.longest)
-}
-
-// Writes the census of the map `table` in two columns: row i is a cycle length in `lengths` and the number of such cycles beside it in `counts`.
-pub fn census_columns(table: &[u8], lengths: &mut [u8], counts: &mut [u8]) -> Census
-    ensures { λ r. ⌜ RowsReplied (now (table .entry)) (now (lengths .entry)) (now (counts .entry)) (censusAnswer r) (now (lengths .exit)) (now (counts .exit)) ⌝ }
-{
-    match check_table(table) {
-        Reply::Refused(cause) => Census::Refused(cause),
-        Reply::Length(_) => put_rows(census_of(table), lengths, counts),
-    }
-}
-
-// What the census entry does: the first `filled` of the rows are written, and `reply` is answered.
+// What a census entry does: the first `filled` of the rows are written, and `reply` is answered.
 struct Decision {
     rows: Rows,
     filled: usize,
@@ -373,7 +342,7 @@ fn decide_rows(rows: Rows, places: usize) -> Decision
     }
 }
 
-// What the census entry does for a list of `places` places.
+// What a census entry does with the map `table` and a list of `places` places.
 fn decide(table: &[u8], places: usize) -> Decision
     ensures { λ d. ⌜ Decided (now (table .entry)) places d ⌝ }
 {
@@ -389,5 +358,38 @@ pub fn census(table: &[u8], rows: &mut [Row]) -> Census
 {
     let decision = decide(table, rows.len());
     fill(rows, decision.rows, decision.filled);
+    decision.reply
+}
+
+// The lesser of two numbers.
+fn lesser(a: usize, b: usize) -> usize
+    ensures { λ r. ⌜ r ≡ min a b ⌝ }
+{
+    if a < b {
+        return a;
+    }
+    b
+}
+
+// Puts the first `n` rows of a census into the first places of both slices.
+fn put_columns(rows: Rows, n: usize, lengths: &mut [u8], counts: &mut [u8])
+    requires { ⌜ (n ≤ 19) × (n ≤ length (now lengths)) × (n ≤ length (now counts)) ⌝ }
+    ensures { λ u. ⌜ ColumnsPut rows n (now (lengths .entry)) (now (counts .entry)) (now (lengths .exit)) (now (counts .exit)) ⌝ }
+{
+    let mut i = 0;
+    while i < n {
+        lengths[i] = rows.lengths[i];
+        counts[i] = rows.counts[i];
+        i += 1;
+    }
+}
+
+// The same in two columns, for callers that have no list of structs: row i is a cycle length in `lengths` and the number of such cycles beside it in `counts`.
+pub fn census_columns(table: &[u8], lengths: &mut [u8], counts: &mut [u8]) -> Census
+    ensures { λ r. ⌜ RowsReplied (now (table .entry)) (now (lengths .entry)) (now (counts .entry)) (censusAnswer r) (now (lengths .exit)) (now (counts .exit)) ⌝ }
+{
+    let places = lesser(lengths.len(), counts.len());
+    let decision = decide(table, places);
+    put_columns(decision.rows, decision.filled, lengths, counts);
     decision.reply
 }
