@@ -43,7 +43,7 @@ rows-map : (g : ℕ → ℕ) (rows : List Row) → map (λ (r : Row). g (r .cycl
 rows-map g [] = refl
 rows-map g (r ∷ rows) = ap (λ l. g (r .cycleLength) ∷ l) (rows-map g rows)
 
-rows-length : (ls cs : List ℕ) → length ls ≡ length cs → length (rowsOf ls cs) ≡ length ls
+pub rows-length : (ls cs : List ℕ) → length ls ≡ length cs → length (rowsOf ls cs) ≡ length ls
 rows-length ls cs e = sym (length-map (rowsOf ls cs) (λ (r : Row). r .cycleLength)) ∙ ap length (rows-lengths ls cs e)
 
 rows-at : (ls cs : List ℕ) (i : ℕ) (d : Row) → i < length ls → i < length cs

@@ -2,6 +2,7 @@
 pub mod CensusRows
 pub mod Counting
 pub mod Listing
+pub mod Filling
 pub mod Maxima
 pub mod Points
 pub mod Stepping

@@ -3,13 +3,15 @@
 ghost use denote.Ref.{now};
 ghost use mathlib.Core.Path.{_≡_};
 ghost use mathlib.Core.Bool.{true};
+ghost use mathlib.Core.List.{_++_, map};
 ghost use Prim.Native.Nat.{_<_, _≤_};
-ghost use lib.ListN.{length, replicate};
+ghost use lib.ListN.{length, take, drop, replicate};
 ghost use Rattle.patterns.specs.Table.{image, isTable};
 ghost use Rattle.patterns.specs.Census.{stepsToCycle, height as heightOf, greatest as greatestOf};
 ghost use Rattle.maps.specs.Marks.{Marked, MarkedPoint};
 ghost use Rattle.census.specs.Counts.{Blank, Counts};
-ghost use Rattle.census.specs.Rows.{Room, Listed, CensusOf};
+ghost use Rattle.census.specs.Rows.{Room, Listed, CensusOf, rowsOf};
+ghost use Rattle.census.specs.Entries.{rowOf, rowIn};
 
 // Row i, i below `rows`: `counts[i]` cycles have `lengths[i]` points.
 pub struct Rows {
@@ -142,4 +144,35 @@ pub fn census(f: &[u8]) -> Rows
     let mut table = no_points();
     maps::mark_cycles(f, &mut marks[..n]);
     take_census(f, &marks[..n], &mut table[..n + 1])
+}
+
+// A census entry [document 01]: a cycle length, and the number of cycles of that length.
+pub struct Row {
+    pub cycle_length: u8,
+    pub cycles: u8,
+}
+
+// Row `i` of a census.
+fn row_at(rows: Rows, i: usize) -> Row
+    requires { ⌜ i < 19 ⌝ }
+    ensures { λ r. ⌜ rowOf r ≡ rowIn rows i ⌝ }
+{
+    let cycle_length = rows.lengths[i];
+    let cycles = rows.counts[i];
+    Row {
+        cycle_length,
+        cycles,
+    }
+}
+
+// Fills the first `n` places of `out` with the first `n` rows of a census; the places behind keep what they held.
+pub fn fill(out: &mut [Row], rows: Rows, n: usize)
+    requires { ⌜ (n ≤ 19) × (n ≤ length (now out)) ⌝ }
+    ensures { λ u. ⌜ map rowOf (now (out .exit)) ≡ rowsOf (take n (rows .lengths)) (take n (rows .counts)) ++ drop n (map rowOf (now (out .entry))) ⌝ }
+{
+    let mut i = 0;
+    while i < n {
+        out[i] = row_at(rows, i);
+        i += 1;
+    }
 }

@@ -7,6 +7,8 @@ use engine::Census;
 use engine::Isomorphism;
 use engine::Successor;
 use patterns::Refusal;
+use tally::Tally;
+use tally::census_of;
 use written::Reply;
 
 const ACCEPT: usize = 1;
@@ -247,17 +249,14 @@ fn are_rows(rows: usize, expected: &[u8], lengths: &[u8], counts: &[u8]) -> bool
     is_filling(&counts[rows..])
 }
 
-// Whether the census of `a` is the expected one.
-fn census_answers(
+// Whether the reply of a census is that of the case, and the rows that stand in both slices are the expected ones.
+fn is_counted(
+    found: Census,
     case: Case,
-    a: &[u8],
     expected: &[u8],
-    lengths: &mut [u8],
-    counts: &mut [u8],
+    lengths: &[u8],
+    counts: &[u8],
 ) -> bool {
-    fill(lengths);
-    fill(counts);
-    let found = engine::census(a, lengths, counts);
     let Census::Counted(rows, height, longest) = found else {
         return is_refused(found, case, lengths, counts);
     };
@@ -271,6 +270,69 @@ fn census_answers(
         return false;
     }
     are_rows(rows, expected, lengths, counts)
+}
+
+// Sets the rows of a tally out in two columns, as many as both have places.
+fn set_out(tally: Tally, lengths: &mut [u8], counts: &mut [u8]) {
+    let mut i = 0;
+    while i < 24 {
+        if lengths.len() <= i {
+            return;
+        }
+        if counts.len() <= i {
+            return;
+        }
+        let row = tally.rows[i];
+        lengths[i] = row.cycle_length;
+        counts[i] = row.cycles;
+        i += 1;
+    }
+}
+
+// Whether the census of `a` in a list of structs is the expected one. The list has at most 24 places.
+fn list_answers(
+    case: Case,
+    a: &[u8],
+    expected: &[u8],
+    lengths: &mut [u8],
+    counts: &mut [u8],
+) -> bool {
+    let places = lengths.len();
+    if 24 < places {
+        return false;
+    }
+    let tally = census_of(a, places, FILLING);
+    let reply = tally.reply;
+    set_out(tally, lengths, counts);
+    is_counted(reply, case, expected, lengths, counts)
+}
+
+// Whether the census of `a` in two columns is the expected one.
+fn columns_answer(
+    case: Case,
+    a: &[u8],
+    expected: &[u8],
+    lengths: &mut [u8],
+    counts: &mut [u8],
+) -> bool {
+    fill(lengths);
+    fill(counts);
+    let found = engine::census_columns(a, lengths, counts);
+    is_counted(found, case, expected, lengths, counts)
+}
+
+// Whether both entries of the census give the answer of the case.
+fn census_answers(
+    case: Case,
+    a: &[u8],
+    expected: &[u8],
+    lengths: &mut [u8],
+    counts: &mut [u8],
+) -> bool {
+    if !list_answers(case, a, expected, lengths, counts) {
+        return false;
+    }
+    columns_answer(case, a, expected, lengths, counts)
 }
 
 // Whether the census was refused by the cause of the case, with nothing written.

@@ -6,6 +6,7 @@ pub mod Coding
 pub mod Sending
 pub mod Isomorphic
 pub mod Rows
+pub mod Decisions
 pub mod Promises
 pub mod Demand3
 pub mod Theorems

@@ -3,4 +3,5 @@ pub mod Answers
 pub mod Memory
 pub mod Tables
 pub mod Rows
+pub mod Decisions
 pub mod Maps

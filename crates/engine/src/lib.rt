@@ -2,8 +2,10 @@
 // buffer are those of the definitions [crates/patterns/specs/Entry.antt].
 mod reply;
 
+pub use census::Row;
 use census::Rows;
 use census::census as census_of;
+use census::fill;
 use lists::Order;
 use lists::compare;
 use maps::map_of;
@@ -23,7 +25,8 @@ use written::Reply;
 use written::put;
 ghost use denote.Ref.{now};
 ghost use mathlib.Core.Path.{_≡_};
-ghost use Prim.Native.Nat.{_≤_};
+ghost use mathlib.Core.List.{map};
+ghost use Prim.Native.Nat.{_≤_, min};
 ghost use lib.ListN.{length, take};
 ghost use Rattle.lists.specs.Select.{next};
 ghost use Rattle.patterns.specs.System.{System, weight, codes, compareSystem};
@@ -31,13 +34,15 @@ ghost use Rattle.patterns.specs.Written.{written as writtenOf};
 ghost use Rattle.patterns.specs.MapOf.{mapOf};
 ghost use Rattle.patterns.specs.Table.{systemOfTable};
 ghost use Rattle.patterns.specs.Entry.{Replied, Outcome.gives, listed, checkedTable};
-ghost use Rattle.patterns.specs.Entry.{acceptOf, firstOf, successorOf, mapOfCode, codeOfMap, IsomorphismReplied};
+ghost use Rattle.patterns.specs.Entry.{acceptOf, firstOf, successorOf, mapOfCode, codeOfMap, IsomorphismReplied, CensusReplied};
 ghost use Rattle.written.specs.Putting.{answerOf};
 ghost use Rattle.reading.specs.Held.{Holds, HeldSystem};
 ghost use Rattle.engine.specs.Answers.{successorAnswer, isomorphismAnswer, censusAnswer};
 ghost use Rattle.engine.specs.Memory.{HeldNext};
 ghost use Rattle.engine.specs.Tables.{tableReply, Table, CodeAsked, CodeWritten, Matched, Sends, SendsPut, SameLength};
-ghost use Rattle.engine.specs.Rows.{RowsPut, RowsReplied};
+ghost use Rattle.census.specs.Entries.{rowOf};
+ghost use Rattle.engine.specs.Rows.{ColumnsPut, RowsReplied};
+ghost use Rattle.engine.specs.Decisions.{Refuses, RowsDecided, Decided};
 
 // Room for every written code.
 fn code_room() -> [u8; 1000]
@@ -290,33 +295,95 @@ pub fn isomorphism(f: &[u8], g: &[u8], out: &mut [u8]) -> Isomorphism
     }
 }
 
-// Puts the rows of a census into the first places of both slices, where both have room for them.
-fn put_rows(rows: Rows, lengths: &mut [u8], counts: &mut [u8]) -> Census
-    requires { ⌜ rows .rows ≤ 19 ⌝ }
-    ensures { λ r. ⌜ RowsPut rows (now (lengths .entry)) (now (counts .entry)) r (now (lengths .exit)) (now (counts .exit)) ⌝ }
+// What a census entry does: the first `filled` of the rows are written, and `reply` is answered.
+struct Decision {
+    rows: Rows,
+    filled: usize,
+    reply: Census,
+}
+
+// A refusal: nothing is written.
+fn refuse(cause: Refusal) -> Decision
+    ensures { λ d. ⌜ Refuses cause d ⌝ }
+{
+    let rows = Rows {
+        lengths: [0u8; 19],
+        counts: [0u8; 19],
+        rows: 0,
+        height: 0,
+        longest: 0,
+    };
+    Decision {
+        rows,
+        filled: 0,
+        reply: Census::Refused(cause),
+    }
+}
+
+// All rows where they have room in `places` places, and a refusal where they have not.
+fn decide_rows(rows: Rows, places: usize) -> Decision
+    ensures { λ d. ⌜ RowsDecided rows places d ⌝ }
 {
     let n = rows.rows;
-    if lengths.len() < n {
-        return Census::Refused(Refusal::Room);
+    if places < n {
+        return refuse(Refusal::Room);
     }
-    if counts.len() < n {
-        return Census::Refused(Refusal::Room);
+    let reply = Census::Counted(n, rows.height, rows.longest);
+    Decision {
+        rows,
+        filled: n,
+        reply,
     }
+}
+
+// What a census entry does with the map `table` and a list of `places` places.
+fn decide(table: &[u8], places: usize) -> Decision
+    ensures { λ d. ⌜ Decided (now (table .entry)) places d ⌝ }
+{
+    match check_table(table) {
+        Reply::Refused(cause) => refuse(cause),
+        Reply::Length(_) => decide_rows(census_of(table), places),
+    }
+}
+
+// Writes the census of the map `table` into the lent list: each entry is a cycle length and the number of such cycles.
+pub fn census(table: &[u8], rows: &mut [Row]) -> Census
+    ensures { λ r. ⌜ CensusReplied (now (table .entry)) (map rowOf (now (rows .entry))) (censusAnswer r) (map rowOf (now (rows .exit))) ⌝ }
+{
+    let decision = decide(table, rows.len());
+    fill(rows, decision.rows, decision.filled);
+    decision.reply
+}
+
+// The lesser of two numbers.
+fn lesser(a: usize, b: usize) -> usize
+    ensures { λ r. ⌜ r ≡ min a b ⌝ }
+{
+    if a < b {
+        return a;
+    }
+    b
+}
+
+// Puts the first `n` rows of a census into the first places of both slices.
+fn put_columns(rows: Rows, n: usize, lengths: &mut [u8], counts: &mut [u8])
+    requires { ⌜ (n ≤ 19) × (n ≤ length (now lengths)) × (n ≤ length (now counts)) ⌝ }
+    ensures { λ u. ⌜ ColumnsPut rows n (now (lengths .entry)) (now (counts .entry)) (now (lengths .exit)) (now (counts .exit)) ⌝ }
+{
     let mut i = 0;
     while i < n {
         lengths[i] = rows.lengths[i];
         counts[i] = rows.counts[i];
         i += 1;
     }
-    Census::Counted(n, rows.height, rows.longest)
 }
 
-// Writes the census of the map `table`: row i is a cycle length in `lengths` and the number of such cycles beside it in `counts`.
-pub fn census(table: &[u8], lengths: &mut [u8], counts: &mut [u8]) -> Census
+// The same in two columns, for callers that have no list of structs: row i is a cycle length in `lengths` and the number of such cycles beside it in `counts`.
+pub fn census_columns(table: &[u8], lengths: &mut [u8], counts: &mut [u8]) -> Census
     ensures { λ r. ⌜ RowsReplied (now (table .entry)) (now (lengths .entry)) (now (counts .entry)) (censusAnswer r) (now (lengths .exit)) (now (counts .exit)) ⌝ }
 {
-    match check_table(table) {
-        Reply::Refused(cause) => Census::Refused(cause),
-        Reply::Length(_) => put_rows(census_of(table), lengths, counts),
-    }
+    let places = lesser(lengths.len(), counts.len());
+    let decision = decide(table, places);
+    put_columns(decision.rows, decision.filled, lengths, counts);
+    decision.reply
 }
