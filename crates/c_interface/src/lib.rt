@@ -66,7 +66,7 @@ fn measure(table: &[u8]) -> Census
 {
     let mut lengths = no_rows();
     let mut counts = no_rows();
-    engine::census(table, &mut lengths, &mut counts)
+    engine::census_columns(table, &mut lengths, &mut counts)
 }
 
 // n, or the refusal of a code.
@@ -130,7 +130,7 @@ pub extern "C" fn lethmuok_isomorphism(f: &[u8], g: &[u8], out: &mut [u8]) -> i6
 pub extern "C" fn lethmuok_census(table: &[u8], lengths: &mut [u8], counts: &mut [u8]) -> i64
     ensures { λ r. ⌜ CensusReported (now (table .entry)) (now (lengths .entry)) (now (counts .entry)) r (now (lengths .exit)) (now (counts .exit)) ⌝ }
 {
-    match engine::census(table, lengths, counts) {
+    match engine::census_columns(table, lengths, counts) {
         Census::Counted(n, _, _) => counted(n),
         Census::Refused(cause) => refusal(cause),
     }

@@ -12,14 +12,14 @@ use Rattle.c_interface.proofs.lethmuok_census.Tie as tie
 abbrev signed : Census → ℤ
 signed r = signedOf (entriesOf (censusAnswer r))
 
-census-requires : tie.Need-census-requires
-census-requires c κs = search needs
+census-columns-requires : tie.Need-census-columns-requires
+census-columns-requires c κs = search needs
 
 enum-known-n : tie.Need-enum-known-n
 enum-known-n c = search needs
 
 counted-requires : tie.Need-counted-requires
-counted-requires c κs = subst (λ r. Fits (entriesOf (censusAnswer r))) (c .before .n .given .1) (entries-fits (c .before .before .before .before .before .before .before .census .ensures))
+counted-requires c κs = subst (λ r. Fits (entriesOf (censusAnswer r))) (c .before .n .given .1) (entries-fits (c .before .before .before .before .before .before .before .census-columns .ensures))
 
 enum-known-cause : tie.Need-enum-known-cause
 enum-known-cause c = search needs
@@ -34,7 +34,7 @@ same-length-2 : tie.Need-same-length-2
 same-length-2 c = search needs
 
 returns : tie.Need-returns
-returns c = census-reported (c .before .before .before .before .before .before .before .before .census .ensures) (c .counted .ensures ∙ sym (ap signed (c .before .before .n .given .1)))
+returns c = census-reported (c .before .before .before .before .before .before .before .before .census-columns .ensures) (c .counted .ensures ∙ sym (ap signed (c .before .before .n .given .1)))
 
 same-length-3 : tie.Need-same-length-3
 same-length-3 c = search needs
@@ -43,13 +43,13 @@ same-length-4 : tie.Need-same-length-4
 same-length-4 c = search needs
 
 returns-2 : tie.Need-returns-2
-returns-2 c = census-reported (c .before .before .before .before .before .before .before .before .census .ensures) (c .refusal .ensures ∙ sym (ap signed (c .before .before .cause .given .1)))
+returns-2 c = census-reported (c .before .before .before .before .before .before .before .before .census-columns .ensures) (c .refusal .ensures ∙ sym (ap signed (c .before .before .cause .given .1)))
 
 pub lethmuok-census-spec : {M : Type 1} → statement M
 lethmuok-census-spec =
     tie.close
     (tie.spec
-    census-requires
+    census-columns-requires
     enum-known-n
     counted-requires
     enum-known-cause
