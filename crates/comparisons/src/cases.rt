@@ -250,13 +250,7 @@ fn are_rows(rows: usize, expected: &[u8], lengths: &[u8], counts: &[u8]) -> bool
 }
 
 // Whether the reply of a census is that of the case, and the rows that stand in both slices are the expected ones.
-fn is_counted(
-    found: Census,
-    case: Case,
-    expected: &[u8],
-    lengths: &[u8],
-    counts: &[u8],
-) -> bool {
+fn is_counted(found: Census, case: Case, expected: &[u8], lengths: &[u8], counts: &[u8]) -> bool {
     let Census::Counted(rows, height, longest) = found else {
         return is_refused(found, case, lengths, counts);
     };

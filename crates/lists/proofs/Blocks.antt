@@ -1,11 +1,11 @@
 -- The laws that the two functions rest on: comparing lists from an index on, and exchanging two neighbouring blocks by three reversals.
 use mathlib.Core.Path.{_≡_, ap, sym, _∙_}
-use mathlib.Core.List.{List, _++_, append-assoc}
+use mathlib.Core.List.{List, [], _++_, append-assoc}
 use Prim.Native.Nat.{ℕ, suc, _+_, _-_, _≤_, _<_, Ordering·lt, Ordering·eq, Ordering·gt, compare}
 use native.Mathlib.Omega.{arith}
 use native.Mathlib.Numerals.{add-one}
 use lib.ListN.{length, getD, take, drop, length-append, length-reverse, take-append-drop, drop-of-length-le}
-use lib.Seq.{slice, drop-cons, drop-append-le, length-take-le, length-slice, take-at, drop-at}
+use lib.Seq.{slice, slice-empty, drop-cons, drop-append-le, length-take-le, length-slice, take-at, drop-at}
 use Rattle.bytes.specs.Bytes.{rev, slice as span}
 use Rattle.bytes.proofs.Laws.{rev-rev-append, split}
 use Rattle.lists.specs.Order.{lex, then}
@@ -92,3 +92,10 @@ three-reversals l a b e h k m =
     (length-take-le a l (omega arith))
     (let q : length (slice a b l) ≡ b - a = length-slice a b l (omega arith) in omega arith)
     (let q : length (slice b e l) ≡ e - b = length-slice b e l m in omega arith)
+
+-- an empty first block: nothing moves
+pub exchanged-nothing : (l : List ℕ) (a b e : ℕ) → a ≡ b → b ≤ e → e ≤ length l → l ≡ exchanged a b e l
+exchanged-nothing l a b e q h k =
+    let none : slice a b l ≡ [] = ap (λ i. slice i b l) q ∙ slice-empty b l in
+    let whole : l ≡ take a l ++ ([] ++ (slice b e l ++ drop e l)) = rw none at (parts l a b e (omega arith) h k) in
+    rw none whole

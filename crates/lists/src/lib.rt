@@ -37,11 +37,14 @@ pub fn compare(s: &[u8], t: &[u8]) -> Order
     Order::Equal
 }
 
-// The blocks a..b and b..e of `s` change places; nothing else moves.
+// The blocks a..b and b..e of `s` change places; nothing else moves. An empty first block, the common case, costs nothing.
 pub fn exchange(s: &mut [u8], a: usize, b: usize, e: usize)
     requires { ⌜ (a ≤ b) × (b ≤ e) × (e ≤ length (now s)) ⌝ }
     ensures { λ r. ⌜ now (s .exit) ≡ exchanged a b e (now (s .entry)) ⌝ }
 {
+    if a == b {
+        return;
+    }
     bytes::reverse(s, a, b);
     bytes::reverse(s, b, e);
     bytes::reverse(s, a, e);

@@ -23,8 +23,5 @@ pub fn census_of(table: &[u8], places: usize, filling: u8) -> Tally
 {
     let mut rows = blank(filling);
     let reply = engine::census(table, &mut rows[..places]);
-    Tally {
-        rows,
-        reply,
-    }
+    Tally { rows, reply }
 }
