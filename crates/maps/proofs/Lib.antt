@@ -21,6 +21,7 @@ pub mod CensusTheory
 pub mod Marking
 pub mod Marks
 pub mod Walking
+pub mod Descending
 pub mod Linking
 pub mod Standing
 pub mod Imaging

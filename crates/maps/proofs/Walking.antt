@@ -108,11 +108,3 @@ unfolding lengthLed
 off-leads-none n f x e =
     let q : leadsCycle n f x ≡ false = is-false (leadsCycle n f x) (λ t. no-both (leads-onCycle n f x t) e) in
     rw q
-
--- the cycle that a point leads has points, and there is none where it leads none
-pub leads-length : (n : ℕ) (f : ℕ → ℕ) (x : ℕ) → ltb 0 (lengthLed n f x) ≡ leadsCycle n f x
-unfolding lengthLed cycleFrom
-leads-length n f x =
-    by-test (leadsCycle n f x)
-    (λ t. rw t (lt-ltb 0 (length (cycleFrom n f x)) (omega arith)))
-    (λ t. rw t)

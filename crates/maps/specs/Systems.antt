@@ -14,6 +14,7 @@ use Rattle.patterns.specs.MapOf.{mapOf}
 use Rattle.patterns.specs.Isomorphism.{Isomorphism}
 use Rattle.maps.specs.Marks.{Marked}
 use Rattle.maps.specs.Links.{Links}
+use Rattle.maps.specs.Leads.{Leads}
 use Rattle.maps.specs.declared.Place.{Place}
 use Rattle.maps.specs.Plants.{Plant, shape, shapes, compareShapes, joined}
 use Rattle.maps.specs.Writing.{Planted, Prepared}
@@ -79,9 +80,11 @@ pub record SystemAsked (f marks sizes numbers labelled : List ℕ) : Type 0 wher
   pub marked : Marked f marks
   pub sizes-room : length sizes ≡ length f
 
--- the same, with the links of the table
-pub record ComponentsAsked (f marks last before sizes numbers labelled : List ℕ) : Type 0 where
+-- the same with the leaders and the links of the table, its marks held beside them
+pub record ComponentsAsked (f leads last before sizes numbers labelled : List ℕ) : Type 0 where
+  pub marks : List ℕ
   pub asked : SystemAsked f marks sizes numbers labelled
+  pub leaders : Leads f leads
   pub links : Links f (length f) last before
 
 -- The system of the table f was written, its sizes in the first r places. The labels are an isomorphism from the map of the system to f; which one, if

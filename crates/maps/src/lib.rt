@@ -21,7 +21,7 @@ ghost use Rattle.patterns.specs.Tree.{Tree, code};
 ghost use Rattle.patterns.specs.Component.{Component, flat, points as pointsOf};
 ghost use Rattle.patterns.specs.System.{System, compareGenerated};
 ghost use Rattle.patterns.specs.MapOf.{innerImages, cycleImages, mapOf};
-ghost use Rattle.patterns.specs.Table.{image, isTable, leadsCycle};
+ghost use Rattle.patterns.specs.Table.{image, isTable};
 ghost use Rattle.written.specs.Putting.{placed};
 ghost use Rattle.maps.specs.Images.{Stands, TreeStands, ComponentStands, HeldMap};
 ghost use Rattle.components.specs.Held.{Held};
@@ -29,6 +29,7 @@ ghost use Rattle.maps.specs.Plants.{plantAt, plantsAlong};
 ghost use Rattle.maps.specs.Writing.{pointsBefore, RowStands, Inserts, TreeAsked, TreeOfLinks, CycleAsked, Planted, LeastStart, ComponentWritten};
 ghost use Rattle.maps.specs.Systems.{BothValid, PlaceAsked, PlaceFound, InsertAsked, ComponentInserted, SystemAsked, ComponentsAsked, SystemWritten};
 ghost use Rattle.maps.specs.Links.{LinksAsked, Links};
+ghost use Rattle.maps.specs.Leads.{Descends, LesserAsked, LeadsAsked, Leads};
 ghost use Rattle.maps.specs.Marks.{lengthLed, MarksAsked, Images, Far, Marked, MarkedPoint};
 
 // `out` is the table of two steps of the table `s`.
@@ -128,12 +129,32 @@ pub fn length_led(f: &[u8], marks: &[u8], x: usize) -> usize
     length
 }
 
-// `x` is on a cycle and is its least point.
-fn leads_cycle(f: &[u8], marks: &[u8], x: usize) -> bool
-    requires { ⌜ MarkedPoint (now f) (now marks) x ⌝ }
-    ensures { λ r. ⌜ r ≡ leadsCycle (length (now (f .entry))) (image (now (f .entry))) x ⌝ }
+// The first point after `x` on its cycle that is not greater than `x`: `lesser` leads past the greater points between.
+fn next_lesser(f: &[u8], lesser: &[u8], x: usize) -> usize
+    requires { ⌜ LesserAsked (now f) (now lesser) x ⌝ }
+    ensures { λ r. ⌜ Descends (image (now (f .entry))) x r ⌝ }
 {
-    0 < length_led(f, marks, x)
+    let mut y = f[x] as usize;
+    while x < y {
+        y = lesser[y] as usize;
+    }
+    y
+}
+
+// `leads` has x at place x exactly if x is the least point of a cycle.
+fn lead_cycles(f: &[u8], marks: &[u8], leads: &mut [u8])
+    requires { ⌜ LeadsAsked (now f) (now marks) (now leads) ⌝ }
+    ensures { λ r. ⌜ Leads (now (f .entry)) (now (leads .exit)) ⌝ }
+{
+    set_all(leads, 255);
+    let mut x = f.len();
+    while 0 < x {
+        x -= 1;
+        if marks[x] != 0 {
+            let y = next_lesser(f, leads, x);
+            leads[x] = y as u8;
+        }
+    }
 }
 
 // How many points the trees of `row` have that stand before the first one that `tree` does not exceed.
@@ -340,14 +361,14 @@ fn insert_component(
 // They come from the greatest leader of a cycle to the least, and each is inserted among those before it.
 fn write_components(
     f: &[u8],
-    marks: &[u8],
+    leads: &[u8],
     last: &[u8],
     before: &[u8],
     sizes: &mut [u8],
     numbers: &mut [u8],
     points: &mut [u8],
 ) -> usize
-    requires { ⌜ ComponentsAsked (now f) (now marks) (now last) (now before) (now sizes) (now numbers) (now points) ⌝ }
+    requires { ⌜ ComponentsAsked (now f) (now leads) (now last) (now before) (now sizes) (now numbers) (now points) ⌝ }
     ensures { λ r. ⌜ SystemWritten (now (f .entry)) r (now (sizes .exit)) (now (numbers .exit)) (now (points .exit)) ⌝ }
 {
     let mut m = 0;
@@ -355,7 +376,7 @@ fn write_components(
     let mut x = f.len();
     while 0 < x {
         x -= 1;
-        if leads_cycle(f, marks, x) {
+        if leads[x] as usize == x {
             let next = write_component(f, last, before, x, numbers, points, end);
             insert_component(sizes, m, numbers, points, end, next);
             m += 1;
@@ -380,7 +401,17 @@ pub fn write_system(
     let mut last = points_room();
     let mut before = points_room();
     link_branches(f, marks, &mut last[..n], &mut before[..n]);
-    write_components(f, marks, &last[..n], &before[..n], sizes, numbers, points)
+    let mut leads = points_room();
+    lead_cycles(f, marks, &mut leads[..n]);
+    write_components(
+        f,
+        &leads[..n],
+        &last[..n],
+        &before[..n],
+        sizes,
+        numbers,
+        points,
+    )
 }
 
 // Writes the images of the points of the tree at `p` but its root: a branch goes to the point that it is a branch of.

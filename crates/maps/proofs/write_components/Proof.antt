@@ -1,5 +1,6 @@
 use denote.Ref.{now}
 use mathlib.Core.Path.{sym, _∙_}
+use Rattle.maps.proofs.Descending.{leader-yes, leader-no}
 use Prim.Native.Nat.{_-_}
 use Rattle.maps.proofs.Collecting.{Collecting, collecting-start, collecting-bound, collecting-numbers, collecting-labels, collecting-skip, collecting-asked, collecting-insert, collecting-take, collecting-end}
 use native.Mathlib.Omega.{arith}
@@ -8,10 +9,10 @@ use Rattle.maps.proofs.write_components.Statement.{statement}
 use Rattle.maps.proofs.write_components.Tie as tie
 
 abbrev Inv-loop : tie.InvT-loop
-Inv-loop f marks last before sizes₀ numbers₀ points₀ m₀ end₀ x₀ sizes numbers points m end x = Collecting f numbers₀ points₀ x end m sizes numbers points
+Inv-loop f leads last before sizes₀ numbers₀ points₀ m₀ end₀ x₀ sizes numbers points m end x = Collecting f numbers₀ points₀ x end m sizes numbers points
 
 abbrev μ-loop : tie.MeasureT-loop
-μ-loop f marks last before sizes₀ numbers₀ points₀ m₀ end₀ x₀ sizes numbers points m end x = x
+μ-loop f leads last before sizes₀ numbers₀ points₀ m₀ end₀ x₀ sizes numbers points m end x = x
 
 loop-holds : tie.Need-loop-holds Inv-loop μ-loop
 loop-holds c =
@@ -21,21 +22,22 @@ loop-holds c =
 sub-x : tie.Need-sub-x Inv-loop μ-loop
 sub-x c = search needs
 
-leads-cycle-requires : tie.Need-leads-cycle-requires Inv-loop μ-loop
-leads-cycle-requires c κs =
-    let p = c .before .before .before .before .before .before .before .before .before .pre .asked in
-    record { table = p .prepared .table; marked = p .marked; here = omega (arith, c .before .loop .inv .passed) }
+shared-slice-read-if1 : tie.Need-shared-slice-read-if1 Inv-loop μ-loop
+shared-slice-read-if1 c = omega (arith, c .before .before .before .before .before .before .before .before .before .before .pre .leaders .room, c .before .before .loop .inv .passed)
+
+cast-if1 : tie.Need-cast-if1 Inv-loop μ-loop
+cast-if1 c = omega (arith, c .shared-slice-known5 .given (c .before .before .loop .x - 1))
 
 write-component-requires : tie.Need-write-component-requires Inv-loop μ-loop
 write-component-requires c κs =
     let l = c .before .before .before .before .before .loop in
     let p = c .before .before .before .before .before .before .before .before .before .before .before .before .before .pre in
-    collecting-asked (p .asked) (l .inv) (l .x - 1) (omega arith) (sym (c .before .before .before .leads-cycle .ensures) ∙ c .before .before .if1 .taken) (p .links)
+    collecting-asked (p .asked) (l .inv) (l .x - 1) (omega arith) (leader-yes (p .leaders) (omega (arith, l .inv .passed)) (c .before .before .if1 .taken)) (p .links)
 
 insert-component-requires : tie.Need-insert-component-requires Inv-loop μ-loop
 insert-component-requires c κs =
     let l = c .before .before .before .before .before .before .before .before .before .before .before .before .before .loop in
-    collecting-insert (c .before .before .before .before .before .before .before .before .before .before .before .before .before .before .before .before .before .before .before .before .before .pre .asked) (l .inv) (l .x - 1) (omega arith) (sym (c .before .before .before .before .before .before .before .before .before .before .before .leads-cycle .ensures) ∙ c .before .before .before .before .before .before .before .before .before .before .if1 .taken) (c .before .before .before .before .before .before .before .write-component .ensures)
+    collecting-insert (c .before .before .before .before .before .before .before .before .before .before .before .before .before .before .before .before .before .before .before .before .before .pre .asked) (l .inv) (l .x - 1) (omega arith) (leader-yes (c .before .before .before .before .before .before .before .before .before .before .before .before .before .before .before .before .before .before .before .before .before .pre .leaders) (omega (arith, l .inv .passed)) (c .before .before .before .before .before .before .before .before .before .before .if1 .taken)) (c .before .before .before .before .before .before .before .write-component .ensures)
 
 add-m : tie.Need-add-m Inv-loop μ-loop
 add-m c = omega (arith, collecting-bound (c .before .before .before .before .before .before .before .before .before .before .before .before .before .before .before .before .before .before .before .before .before .before .before .before .before .before .before .before .pre .asked) (c .before .before .before .before .before .before .before .before .before .before .before .before .before .before .before .before .before .before .before .before .loop .inv), c .before .before .before .before .before .before .before .before .before .before .before .before .before .before .before .before .before .before .before .before .before .before .before .before .before .before .before .before .pre .asked .prepared .small)
@@ -46,7 +48,7 @@ loop-less c = omega arith
 loop-again : tie.Need-loop-again Inv-loop μ-loop
 loop-again c =
     let l = c .before .before .before .before .before .before .before .before .before .before .before .before .before .before .before .before .before .before .before .before .loop in
-    collecting-take (c .before .before .before .before .before .before .before .before .before .before .before .before .before .before .before .before .before .before .before .before .before .before .before .before .before .before .before .before .pre .asked) (l .inv) (l .x - 1) (omega arith) (sym (c .before .before .before .before .before .before .before .before .before .before .before .before .before .before .before .before .before .before .leads-cycle .ensures) ∙ c .before .before .before .before .before .before .before .before .before .before .before .before .before .before .before .before .before .if1 .taken) (c .before .before .before .before .before .before .before .before .before .before .before .before .before .before .write-component .ensures)
+    collecting-take (c .before .before .before .before .before .before .before .before .before .before .before .before .before .before .before .before .before .before .before .before .before .before .before .before .before .before .before .before .pre .asked) (l .inv) (l .x - 1) (omega arith) (leader-yes (c .before .before .before .before .before .before .before .before .before .before .before .before .before .before .before .before .before .before .before .before .before .before .before .before .before .before .before .before .pre .leaders) (omega (arith, l .inv .passed)) (c .before .before .before .before .before .before .before .before .before .before .before .before .before .before .before .before .before .if1 .taken)) (c .before .before .before .before .before .before .before .before .before .before .before .before .before .before .write-component .ensures)
     (c .before .before .before .before .before .before .insert-component .kept .0) (c .before .before .before .before .before .before .insert-component .ensures)
 
 loop-less-2 : tie.Need-loop-less-2 Inv-loop μ-loop
@@ -55,7 +57,7 @@ loop-less-2 c = omega arith
 loop-again-2 : tie.Need-loop-again-2 Inv-loop μ-loop
 loop-again-2 c =
     let l = c .before .before .before .loop in
-    collecting-skip (c .before .before .before .before .before .before .before .before .before .before .before .pre .asked) (l .inv) (l .x - 1) (omega arith) (sym (c .before .leads-cycle .ensures) ∙ c .if1 .left)
+    collecting-skip (c .before .before .before .before .before .before .before .before .before .before .before .pre .asked) (l .inv) (l .x - 1) (omega arith) (leader-no (c .before .before .before .before .before .before .before .before .before .before .before .pre .leaders) (omega (arith, l .inv .passed)) (c .if1 .left))
 
 same-length : tie.Need-same-length Inv-loop μ-loop
 same-length c = c .before .loop .inv .sizes-room ∙ sym (c .before .before .before .before .before .before .before .before .before .pre .asked .sizes-room)
@@ -77,7 +79,8 @@ write-components-spec =
     μ-loop
     loop-holds
     sub-x
-    leads-cycle-requires
+    shared-slice-read-if1
+    cast-if1
     write-component-requires
     insert-component-requires
     add-m

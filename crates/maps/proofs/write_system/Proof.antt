@@ -1,6 +1,7 @@
 use mathlib.Core.Path.{sym}
 use mathlib.Core.List.{[]}
 use Rattle.maps.proofs.Linking.{links-places, links-asked, last-within, before-within, links-back}
+use Rattle.maps.proofs.Descending.{leads-asked, leads-within, leads-back}
 use borrow.Author.Needs.{needs}
 use Rattle.maps.proofs.write_system.Statement.{statement}
 use Rattle.maps.proofs.write_system.Tie as tie
@@ -26,20 +27,44 @@ slice-aggregate-link-branches-2 c = sym (links-places (c .before .before .before
 link-branches-requires : tie.Need-link-branches-requires
 link-branches-requires c κs = links-asked (c .before .before .before .before .before .before .before .before .before .pre) _ _ (c .before .before .before .points-room .ensures) (c .before .before .points-room2 .ensures)
 
-array-share-prefix-last : tie.Need-array-share-prefix-last
-array-share-prefix-last c = last-within (c .before .before .link-branches .ensures) _ []
+points-room-requires-3 : tie.Need-points-room-requires-3
+points-room-requires-3 c κs = search needs
+
+array-borrow-prefix-leads : tie.Need-array-borrow-prefix-leads
+array-borrow-prefix-leads c = search needs
+
+slice-aggregate-lead-cycles : tie.Need-slice-aggregate-lead-cycles
+slice-aggregate-lead-cycles c = sym (links-places (c .before .before .before .before .before .before .before .before .before .before .before .before .before .before .pre) _ (c .before .points-room3 .ensures))
+
+lead-cycles-requires : tie.Need-lead-cycles-requires
+lead-cycles-requires c κs = leads-asked (c .before .before .before .before .before .before .before .before .before .before .before .before .before .before .pre) _ (c .before .points-room3 .ensures)
+
+array-share-prefix-leads : tie.Need-array-share-prefix-leads
+array-share-prefix-leads c = leads-within (c .before .lead-cycles .ensures) _
 
 slice-aggregate-write-components : tie.Need-slice-aggregate-write-components
-slice-aggregate-write-components c = sym ((links-back (c .before .before .before .link-branches .ensures) _ []) .last-room)
+slice-aggregate-write-components c = sym ((leads-back (c .before .before .lead-cycles .ensures) _) .room)
 
-array-share-prefix-before : tie.Need-array-share-prefix-before
-array-share-prefix-before c = before-within (c .before .before .before .link-branches .ensures) [] _
+array-share-prefix-last : tie.Need-array-share-prefix-last
+array-share-prefix-last c = last-within (c .before .before .before .before .before .before .before .link-branches .ensures) _ []
 
 slice-aggregate-write-components-2 : tie.Need-slice-aggregate-write-components-2
-slice-aggregate-write-components-2 c = sym ((links-back (c .before .before .before .before .link-branches .ensures) [] _) .before-room)
+slice-aggregate-write-components-2 c = sym ((links-back (c .before .before .before .before .before .before .before .before .link-branches .ensures) _ []) .last-room)
+
+array-share-prefix-before : tie.Need-array-share-prefix-before
+array-share-prefix-before c = before-within (c .before .before .before .before .before .before .before .before .link-branches .ensures) [] _
+
+slice-aggregate-write-components-3 : tie.Need-slice-aggregate-write-components-3
+slice-aggregate-write-components-3 c = sym ((links-back (c .before .before .before .before .before .before .before .before .before .link-branches .ensures) [] _) .before-room)
 
 write-components-requires : tie.Need-write-components-requires
-write-components-requires c κs = record { asked = c .before .before .before .before .before .before .before .before .before .before .before .before .before .before .before .before .before .pre; links = links-back (c .before .before .before .before .before .before .before .link-branches .ensures) _ _ }
+write-components-requires c κs =
+    record {
+      marks = _;
+      asked = c .before .before .before .before .before .before .before .before .before .before .before .before .before .before .before .before .before .before .before .before .before .before .pre;
+      leaders = leads-back (c .before .before .before .before .before .before .before .lead-cycles .ensures) _;
+      links = links-back (c .before .before .before .before .before .before .before .before .before .before .before .before .link-branches .ensures) _ _;
+    }
 
 same-length : tie.Need-same-length
 same-length c = search needs
@@ -64,10 +89,16 @@ write-system-spec =
     array-borrow-prefix-before
     slice-aggregate-link-branches-2
     link-branches-requires
-    array-share-prefix-last
+    points-room-requires-3
+    array-borrow-prefix-leads
+    slice-aggregate-lead-cycles
+    lead-cycles-requires
+    array-share-prefix-leads
     slice-aggregate-write-components
-    array-share-prefix-before
+    array-share-prefix-last
     slice-aggregate-write-components-2
+    array-share-prefix-before
+    slice-aggregate-write-components-3
     write-components-requires
     same-length
     same-length-2
