@@ -102,3 +102,9 @@ module _ (s : List ℕ) (at left : ℕ) where
             let d : next - at ≡ size t = omega arith in
             rw (drop-drop, d, z) (joined t (readBranches f (left - size t) (drop (at + size t) s)))
         of (fault d) q = absurd (let z : _≡_ {A = ℕ} 0 1 = cc in omega arith)
+
+-- a tree of one point
+pub tree-leaf : (s : List ℕ) (at limit : ℕ) (f : ℕ) → limit + limit < f → at < length s → getD s at 0 ≤ limit → getD s at 0 ≡ 1
+    → Past (at + 1) ≡ walked at (readTree f limit (drop at s))
+tree-leaf s at limit f h k e one =
+    tree-branches s at limit f (Past (at + 1)) h k (omega arith) e (λ g b. branches-none s (at + 1) (getD s at 0 - 1) g b (omega arith))

@@ -32,7 +32,7 @@ pub enum Accepted {
     Refused(Refusal),
 }
 
-// A tree of at most `limit` points, from place `at` on.
+// A tree of at most `limit` points, from place `at` on. A tree of one point has no branches to read.
 pub fn read_tree(s: &[u16], at: usize, limit: usize) -> Read
     ensures { λ r. ⌜ ((f : ℕ) → limit + limit < f → r ≡ walked at (readTree f limit (drop at (now (s .entry))))) ⌝ }
 {
@@ -45,6 +45,9 @@ pub fn read_tree(s: &[u16], at: usize, limit: usize) -> Read
     }
     if limit < x {
         return Read::Refused(Refusal::Sizes);
+    }
+    if x == 1 {
+        return Read::Past(at + 1);
     }
     read_branches(s, at + 1, x - 1)
 }

@@ -5,7 +5,7 @@ use native.Mathlib.Omega.{arith}
 use borrow.Author.Needs.{needs}
 use borrow.Fn.Kinds.{In}
 use borrow.Fn.PlainCycle.{Measures, is, falls, and}
-use Rattle.reading.proofs.Walking.{tree-ended, tree-empty, tree-large, tree-branches, tree-past, branches-none, branches-refused, branches-next}
+use Rattle.reading.proofs.Walking.{tree-ended, tree-empty, tree-large, tree-leaf, tree-branches, tree-past, branches-none, branches-refused, branches-next}
 use Rattle.reading.proofs.read_branches.Reads as read-branches
 use Rattle.reading.proofs.read_branches.Kinds as read-branches-kinds
 use Rattle.reading.proofs.+read_branches+read_tree.Lts-read_branches as read-branches-lts
@@ -196,6 +196,20 @@ read-tree-returns-3 t c =
     let a = c .before .before .before .before .before .args in
     λ f h. tree-large (now (a .s)) (a .at) (a .limit) f h (omega arith) (omega arith) (omega arith)
 
+read-tree-add-t12 : (t : ℕ) → read-tree-lts.Need-add-t12 (
+  read-branches-below t,
+  read-branches.Post,
+) (read-tree-at t) read-tree.Post
+read-tree-add-t12 t c = search needs
+
+read-tree-returns-4 : (t : ℕ) → read-tree-lts.Need-returns-4 (
+  read-branches-below t,
+  read-branches.Post,
+) (read-tree-at t) read-tree.Post
+read-tree-returns-4 t c =
+    let a = c .before .before .before .before .before .before .args in
+    λ f h. tree-leaf (now (a .s)) (a .at) (a .limit) f h (omega arith) (omega arith) (omega arith)
+
 read-tree-add-read-branches : (t : ℕ) → read-tree-lts.Need-add-read-branches (
   read-branches-below t,
   read-branches.Post,
@@ -214,12 +228,12 @@ read-tree-read-branches-requires : (t : ℕ) → read-tree-lts.Need-read-branche
 ) (read-tree-at t) read-tree.Post
 read-tree-read-branches-requires t c κs = search needs
 
-read-tree-returns-4 : (t : ℕ) → read-tree-lts.Need-returns-4 (
+read-tree-returns-5 : (t : ℕ) → read-tree-lts.Need-returns-5 (
   read-branches-below t,
   read-branches.Post,
 ) (read-tree-at t) read-tree.Post
-read-tree-returns-4 t c =
-    let a = c .before .before .before .before .before .before .args in
+read-tree-returns-5 t c =
+    let a = c .before .before .before .before .before .before .before .args in
     λ f h.
     tree-branches
     (now (a .s))
@@ -261,7 +275,9 @@ pub +read-branches+read-tree-spec : {M : Type 1} → statement M
     (read-tree-cast-x t)
     (read-tree-returns-2 t)
     (read-tree-returns-3 t)
+    (read-tree-add-t12 t)
+    (read-tree-returns-4 t)
     (read-tree-add-read-branches t)
     (read-tree-sub-read-branches t)
     (read-tree-read-branches-requires t)
-    (read-tree-returns-4 t)
+    (read-tree-returns-5 t)
