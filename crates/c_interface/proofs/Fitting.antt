@@ -16,9 +16,10 @@ use Rattle.patterns.specs.declared.Refusal.{Refusal}
 use Rattle.patterns.specs.declared.Refusal.the-variants.{Count, Image, Truncated, NumberForm, Sizes, NotCanonical, Trailing, Room, Position}
 use Rattle.patterns.specs.System.{System, weight}
 use Rattle.patterns.specs.Reading.{Result, done, fault, accepted}
-use Rattle.patterns.specs.Entry.{Answer, length-is, refused, numberOf, Outcome, gives, ends, lacks, fails, answer, answered, Replied, acceptOf, IsomorphismReplied}
+use Rattle.patterns.specs.Replies.{Answer, length-is, refused, numberOf}
+use Rattle.patterns.specs.Entry.{Outcome, gives, ends, lacks, fails, answer, answered, Replied, acceptOf, IsomorphismReplied}
 use Rattle.engine.proofs.Accepting.{accepted-canonical}
-use Rattle.c_interface.specs.Numbers.{signedOf, Reported, IsomorphismReported}
+use Rattle.patterns.specs.SignedReplies.{signedOf, Reported, IsomorphismReported}
 
 abbrev pub Fits : Answer → Type 0
 Fits a = SFits w64 (signedOf a)

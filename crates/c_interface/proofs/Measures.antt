@@ -16,13 +16,14 @@ use Rattle.patterns.specs.declared.Refusal.the-variants.{Count, Image, Room}
 use Rattle.patterns.specs.Table.{image, isTable, onCycle}
 use Rattle.patterns.specs.Census.{greatest, Row, stepsToCycle, height, longestCycle, cycleLengths}
 use Rattle.patterns.specs.Reading.{Result, done}
-use Rattle.patterns.specs.Entry.{length-is, checkedTable, answer, Counted, table-refused, counted, CensusAnswer, censusAnswered}
+use Rattle.patterns.specs.Replies.{length-is, CensusAnswer}
+use Rattle.patterns.specs.Entry.{checkedTable, answer, Counted, table-refused, counted, censusAnswered}
 use Rattle.maps.proofs.Isomorphisms.{table-below}
 use Rattle.maps.proofs.CensusTheory.{lengths-add-up, cycle-points-bound, census-fits}
-use Rattle.census.specs.Rows.{rowsOf}
-use Rattle.engine.specs.Rows.{RowsReplied}
+use Rattle.patterns.specs.Census.{rowsOf}
+use Rattle.patterns.specs.Entry.{RowsReplied}
 use Rattle.engine.proofs.Tables.{checked-table}
-use Rattle.c_interface.specs.Numbers.{signedOf, entriesOf, heightIn, longestIn, heightOf, longestOf, CensusReported}
+use Rattle.patterns.specs.SignedReplies.{signedOf, entriesOf, heightIn, longestIn, heightOf, longestOf, CensusReported}
 use Rattle.c_interface.proofs.Fitting.{Fits, read-back, refused-fits, small-fits}
 
 module _ (n : ℕ) (f : ℕ → ℕ) where

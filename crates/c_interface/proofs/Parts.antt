@@ -8,13 +8,15 @@ use lib.ListN.{length, getD}
 use mir.Syntax.{w64}
 use mir.Val.{SFits, toZ, ofZ}
 use Rattle.patterns.specs.Reading.{Result, done, fault}
-use Rattle.patterns.specs.Entry.{Answer, length-is, refused, answer, componentOf}
+use Rattle.patterns.specs.Replies.{Answer, length-is, refused}
+use Rattle.patterns.specs.Entry.{answer, componentOf}
 use Rattle.systems.proofs.Bounds.{below-at}
-use Rattle.component_reader.specs.declared.Stretch.{Stretch}
-use Rattle.component_reader.specs.declared.Stretch.the-variants.{Part}
-use Rattle.component_reader.specs.Stretch.{PartAnswer, part-is, part-refused, partAnswer, partAnswered}
+use Rattle.patterns.specs.declared.reply.Stretch.{Stretch}
+use Rattle.patterns.specs.declared.reply.Stretch.the-variants.{Part}
+use Rattle.patterns.specs.Replies.{PartAnswer, part-is, part-refused, partAnswer}
+use Rattle.patterns.specs.Entry.{partAnswered}
 use Rattle.component_reader.proofs.Showing.{stands, stands-within}
-use Rattle.c_interface.specs.Numbers.{signedOf}
+use Rattle.patterns.specs.SignedReplies.{signedOf}
 use Rattle.c_interface.proofs.Fitting.{Fits, read-back, refused-fits}
 
 module _ (which : ℕ × ℕ → ℕ) (within : (start end : ℕ) → start < end → which (start, end) ≤ end) where

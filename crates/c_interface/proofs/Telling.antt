@@ -6,13 +6,13 @@ use lib.Dec.{eqb}
 use lib.IntN.{ℤ, pos, negsuc}
 use Rattle.patterns.specs.declared.Refusal.{Refusal}
 use Rattle.patterns.specs.declared.Refusal.the-variants.{Count, Image, Truncated, NumberForm, Sizes, NotCanonical, Trailing, Room, Position}
-use Rattle.patterns.specs.Entry.{Answer, length-is, last, none-exists, refused, numberOf}
-use Rattle.c_interface.specs.Numbers.{signedOf}
+use Rattle.patterns.specs.Replies.{Answer, length-is, last, lacking, refused, numberOf}
+use Rattle.patterns.specs.SignedReplies.{signedOf}
 
 -- the reply that a caller takes a number for
 abbrev pub replyOf : ℤ → Answer
 replyOf (pos n) = length-is n
-replyOf (negsuc k) = cond (eqb k 99) last (cond (eqb k 100) none-exists (refused (suc k)))
+replyOf (negsuc k) = cond (eqb k 99) last (cond (eqb k 100) lacking (refused (suc k)))
 
 pub length-told : (n : ℕ) → replyOf (signedOf (length-is n)) ≡ length-is n
 length-told n = refl
@@ -20,7 +20,7 @@ length-told n = refl
 pub last-told : replyOf (signedOf last) ≡ last
 last-told = refl
 
-pub none-told : replyOf (signedOf none-exists) ≡ none-exists
+pub none-told : replyOf (signedOf lacking) ≡ lacking
 none-told = refl
 
 pub refusal-told : (c : Refusal) → replyOf (signedOf (refused (numberOf c))) ≡ refused (numberOf c)

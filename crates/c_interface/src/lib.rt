@@ -1,22 +1,23 @@
 // The entries of the engine for callers in C: numbers and byte slices in, one signed number out. Of each slice C hands over a pointer and a count.
-use component_reader::Stretch;
 use component_reader::stretch_of;
-use engine::Census;
-use engine::Isomorphism;
-use engine::Successor;
+use patterns::Census;
+use patterns::Isomorphism;
 use patterns::Refusal;
-use written::Reply;
+use patterns::Reply;
+use patterns::Stretch;
+use patterns::Successor;
 ghost use denote.Ref.{now};
 ghost use mathlib.Core.Path.{_≡_};
 ghost use lib.IntN.{pos};
 ghost use lib.ListN.{length};
 ghost use mir.Syntax.{w64};
 ghost use mir.Val.{SFits};
-ghost use Rattle.patterns.specs.Entry.{Answer.refused, numberOf, acceptOf, firstOf, successorOf, codeOfMap, mapOfCode};
-ghost use Rattle.written.specs.Putting.{answerOf};
-ghost use Rattle.engine.specs.Answers.{censusAnswer};
-ghost use Rattle.c_interface.specs.Numbers.{signedOf, heightIn, longestIn, Reported, IsomorphismReported, CensusReported, heightOf, longestOf};
-ghost use Rattle.c_interface.specs.Numbers.{componentStart, componentEnd};
+ghost use Rattle.patterns.specs.Replies.{Answer.refused, numberOf};
+ghost use Rattle.patterns.specs.Entry.{acceptOf, firstOf, successorOf, codeOfMap, mapOfCode};
+ghost use Rattle.patterns.specs.Replies.{answerOf};
+ghost use Rattle.patterns.specs.Replies.{censusAnswer};
+ghost use Rattle.patterns.specs.SignedReplies.{signedOf, heightIn, longestIn, Reported, IsomorphismReported, CensusReported, heightOf, longestOf};
+ghost use Rattle.patterns.specs.SignedReplies.{componentStart, componentEnd};
 
 // The number of a refusal.
 fn refusal(cause: Refusal) -> i64
@@ -120,7 +121,7 @@ pub extern "C" fn lethmuok_isomorphism(f: &[u8], g: &[u8], out: &mut [u8]) -> i6
 {
     match engine::isomorphism(f, g, out) {
         Isomorphism::Points(n) => counted(n),
-        Isomorphism::Nothing => -101,
+        Isomorphism::Lacking => -101,
         Isomorphism::Refused(cause) => refusal(cause),
     }
 }

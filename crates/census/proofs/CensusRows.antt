@@ -21,7 +21,8 @@ use Rattle.maps.proofs.Leaders.{cycle-period, leader-onCycle}
 use Rattle.maps.proofs.CensusTheory.{greatest-bound, greatest-in, of-cycleLengths, cycleLengths-positive, occurs, occurs-not, census-fits}
 use Rattle.census.specs.Counts.{Counts}
 use Rattle.census.specs.declared.Rows.{Rows}
-use Rattle.census.specs.Rows.{counted, rowsOf, rowsIn, Room, Listed, CensusOf}
+use Rattle.census.specs.Rows.{counted, rowsIn, Room, Listed, CensusOf}
+use Rattle.patterns.specs.Census.{rowsOf}
 
 positive : (k : ℕ) → (k ≡ 0 → ⊥) → 0 < k
 positive zero h = absurd (h refl)

@@ -7,10 +7,11 @@ use native.Mathlib.Numerals.{add-one}
 use lib.ListN.{length, getD, take, drop, set, length-map, length-set}
 use lib.Seq.{take-suc, drop-cons, set-at, append-snoc, length-take-le}
 use Rattle.patterns.specs.Census.{Row}
-use Rattle.census.specs.declared.Row.{Row as Entry}
+use Rattle.patterns.specs.declared.reply.Row.{Row as Entry}
 use Rattle.census.specs.declared.Rows.{Rows}
-use Rattle.census.specs.Rows.{rowsOf}
-use Rattle.census.specs.Entries.{rowOf, rowIn}
+use Rattle.patterns.specs.Census.{rowsOf}
+use Rattle.patterns.specs.Replies.{rowOf}
+use Rattle.census.specs.Entries.{rowIn}
 use Rattle.census.proofs.CensusRows.{rows-length}
 
 pub rows-append : (a b c d : List ℕ) → length a ≡ length b → rowsOf (a ++ c) (b ++ d) ≡ rowsOf a b ++ rowsOf c d

@@ -7,7 +7,7 @@ use lib.Dec.{eqb}
 use lib.ListN.{length, getD, take, drop}
 use Rattle.lists.specs.Select.{keep, range}
 use Rattle.patterns.specs.Table.{image}
-use Rattle.patterns.specs.Census.{Row, Census, height, longestCycle}
+use Rattle.patterns.specs.Census.{Row, rowsOf, Census, height, longestCycle}
 use Rattle.census.specs.declared.Rows.{Rows}
 
 -- the numbers from 1 on at which the table of counts is not 0
@@ -26,12 +26,6 @@ pub record Listed (table lengths₀ counts₀ : List ℕ) (rows : ℕ) (lengths 
   pub many : rows ≡ length (counted table)
   pub lengths-are : lengths ≡ counted table ++ drop rows lengths₀
   pub counts-are : counts ≡ map (λ l. getD table l 0) (counted table) ++ drop rows counts₀
-
--- the rows of two lists side by side
-abbrev pub rowsOf : List ℕ → List ℕ → List Row
-rowsOf [] counts = []
-rowsOf (l ∷ lengths) [] = []
-rowsOf (l ∷ lengths) (c ∷ counts) = record { cycleLength = l; cycles = c } ∷ rowsOf lengths counts
 
 -- the rows that r holds
 abbrev pub rowsIn : Rows → List Row

@@ -1,5 +1,6 @@
 // The census of a map in running code [document 01, "Refusing", last but one paragraph]: which cycle lengths occur and how often, the greatest
 // distance of a point from its cycle, and the longest cycle.
+use patterns::Row;
 ghost use denote.Ref.{now};
 ghost use mathlib.Core.Path.{_≡_};
 ghost use mathlib.Core.Bool.{true};
@@ -10,8 +11,10 @@ ghost use Rattle.patterns.specs.Table.{image, isTable};
 ghost use Rattle.patterns.specs.Census.{stepsToCycle, height as heightOf, greatest as greatestOf};
 ghost use Rattle.maps.specs.Marks.{Marked, MarkedPoint};
 ghost use Rattle.census.specs.Counts.{Blank, Counts};
-ghost use Rattle.census.specs.Rows.{Room, Listed, CensusOf, rowsOf};
-ghost use Rattle.census.specs.Entries.{rowOf, rowIn};
+ghost use Rattle.census.specs.Rows.{Room, Listed, CensusOf};
+ghost use Rattle.patterns.specs.Census.{rowsOf};
+ghost use Rattle.patterns.specs.Replies.{rowOf};
+ghost use Rattle.census.specs.Entries.{rowIn};
 
 // Row i, i below `rows`: `counts[i]` cycles have `lengths[i]` points.
 pub struct Rows {
@@ -144,12 +147,6 @@ pub fn census(f: &[u8]) -> Rows
     let mut table = no_points();
     maps::mark_cycles(f, &mut marks[..n]);
     take_census(f, &marks[..n], &mut table[..n + 1])
-}
-
-// A census entry [document 01]: a cycle length, and the number of cycles of that length.
-pub struct Row {
-    pub cycle_length: u8,
-    pub cycles: u8,
 }
 
 // Row `i` of a census.

@@ -3,13 +3,13 @@ use crate::Score;
 use crate::input_room;
 use crate::numbers;
 use crate::output_room;
-use engine::Census;
-use engine::Isomorphism;
-use engine::Successor;
+use patterns::Census;
+use patterns::Isomorphism;
 use patterns::Refusal;
+use patterns::Reply;
+use patterns::Successor;
 use tally::Tally;
 use tally::census_of;
-use written::Reply;
 
 const ACCEPT: usize = 1;
 
@@ -111,7 +111,7 @@ fn of_isomorphism(reply: Isomorphism) -> Answer {
             kind: LENGTH,
             value: n,
         },
-        Isomorphism::Nothing => Answer {
+        Isomorphism::Lacking => Answer {
             kind: NONE,
             value: 0,
         },

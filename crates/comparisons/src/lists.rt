@@ -1,8 +1,8 @@
 // The list of all codes: how many there are, how many of them are connected, and how it is printed.
 use crate::numbers;
 use crate::output_room;
-use engine::Successor;
-use written::Reply;
+use patterns::Reply;
+use patterns::Successor;
 
 // OEIS A001372: the functional digraphs of 0 to 8 points.
 const TOTALS: [usize; 9] = [1, 1, 3, 7, 19, 47, 130, 343, 951];

@@ -1,7 +1,7 @@
 // Cases of the component reader: a code and a position in it, the answer that must be given, and the bytes that must be shown [tools/README.md].
 use crate::Score;
 use crate::numbers;
-use component_reader::Stretch;
+use patterns::Stretch;
 
 const PART: usize = 0;
 

@@ -1,9 +1,9 @@
 // Runs on pairs of maps, the second a shuffled copy of the first.
 use crate::numbers;
 use crate::output_room;
-use engine::Isomorphism;
-use engine::Successor;
-use written::Reply;
+use patterns::Isomorphism;
+use patterns::Reply;
+use patterns::Successor;
 ghost use denote.Ref.{now};
 ghost use Prim.Native.Nat.{_≤_};
 ghost use lib.ListN.{length};

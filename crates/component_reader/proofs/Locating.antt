@@ -14,13 +14,15 @@ use Rattle.patterns.specs.System.{System, weight}
 use Rattle.patterns.specs.Written.{numbers as numbersOf, writeNumber, bytes, written, startOf}
 use Rattle.patterns.specs.Reading.{done}
 use Rattle.patterns.proofs.Trees.{length-flat}
-use Rattle.components.specs.Held.{Held}
-use Rattle.reading.specs.Held.{Holds, HeldSystem}
+use Rattle.memory.specs.Memory.{Held}
+use Rattle.memory.specs.Memory.{Holds}
+use Rattle.memory.specs.Memory.{HeldSystem}
 use Rattle.systems.proofs.Numbers.{bytes-length}
 use Rattle.systems.proofs.Readback.{components-points, length-components}
 use Rattle.systems.proofs.Parts.{part-fits, held-count, held-points, held-fits, held-part, held-next}
 use Rattle.systems.proofs.WrittenBack.{componentBytes, component-ends}
-use Rattle.component_reader.specs.Stretch.{part-is, part-refused, partAnswered, componentIn}
+use Rattle.patterns.specs.Replies.{part-is, part-refused}
+use Rattle.patterns.specs.Entry.{partAnswered, componentIn}
 
 -- the first component begins after n and m
 first-start : (S : System) → startOf S 0 ≡ length (writeNumber (weight S)) + length (writeNumber (length S))
@@ -44,7 +46,7 @@ end-bound : {sizes numbers : List ℕ} (w : HeldSystem sizes numbers) (i : ℕ) 
 unfolding written
 end-bound w i h =
     let S = w .system in
-    omega (arith, component-ends S i h .1, bytes-length (numbersOf S), length-components S, components-points S (w .trees), w .small)
+    omega (arith, component-ends S i h .1, bytes-length (numbersOf S), length-components S, components-points S (w .each-nonempty), w .small)
 
 -- The first i components of S are passed: the next begins at `start` in the code, and at `from` in the numbers.
 pub record Passed (S : System) (i from start : ℕ) : Type 0 where

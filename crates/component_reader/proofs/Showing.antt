@@ -15,12 +15,16 @@ use Rattle.patterns.specs.declared.Refusal.{Refusal}
 use Rattle.patterns.specs.System.{System}
 use Rattle.patterns.specs.Written.{componentNumbers, bytes, startOf}
 use Rattle.patterns.specs.Reading.{Result, done, fault, andThen, accepted}
-use Rattle.patterns.specs.Entry.{numberOf, componentOf}
+use Rattle.patterns.specs.Replies.{numberOf}
+use Rattle.patterns.specs.Entry.{componentOf}
 use Rattle.systems.proofs.Bounds.{allBelow, below-at}
 use Rattle.systems.proofs.WrittenBack.{accepted-is, component-stretch, component-ends}
-use Rattle.component_reader.specs.declared.Stretch.{Stretch}
-use Rattle.component_reader.specs.declared.Stretch.the-variants.{Part, Refused}
-use Rattle.component_reader.specs.Stretch.{PartOf, Shown, PartAnswer, part-is, part-refused, partAnswer, partAnswered, componentIn}
+use Rattle.patterns.specs.declared.reply.Stretch.{Stretch}
+use Rattle.patterns.specs.declared.reply.Stretch.the-variants.{Part}
+use Rattle.patterns.specs.declared.reply.Stretch.the-variants.{Refused}
+use Rattle.patterns.specs.Entry.{PartOf, partAnswered, componentIn}
+use Rattle.patterns.specs.Entry.{Shown}
+use Rattle.patterns.specs.Replies.{PartAnswer, part-is, part-refused, partAnswer}
 
 -- the code's own fault comes first
 pub code-fault : (b : List ℕ) (i : ℕ) (c : Refusal) → accepted b ≡ fault c → part-refused (numberOf c) ≡ partAnswered (componentOf b i)

@@ -13,7 +13,7 @@ use Rattle.patterns.specs.Written.{componentNumbers, bytes, written, startOf}
 use Rattle.patterns.specs.Reading.{done, fault}
 use Rattle.patterns.specs.Entry.{componentOf}
 use Rattle.systems.proofs.WrittenBack.{written-back, written-bytes}
-use Rattle.component_reader.specs.Stretch.{Shown}
+use Rattle.patterns.specs.Entry.{Shown}
 use Rattle.component_reader.proofs.Showing.{Stands, component-shown}
 
 module _ (S : System) (c : canonical S ≡ true) (h : weight S ≤ 200) where

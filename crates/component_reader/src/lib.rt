@@ -2,6 +2,7 @@
 // given. A reader is a code and a position. The functions over it are thin: what they answer is found by functions on a slice and a number.
 use components::count;
 use patterns::Refusal;
+use patterns::Stretch;
 use patterns::points_room;
 use reading::Accepted;
 use reading::accept_into;
@@ -12,14 +13,11 @@ ghost use lib.ListN.{length};
 ghost use Rattle.patterns.specs.System.{System};
 ghost use Rattle.patterns.specs.Written.{writeNumber, bytes as bytesOf};
 ghost use Rattle.patterns.specs.Entry.{componentOf};
-ghost use Rattle.reading.specs.Held.{Holds, HeldSystem};
-ghost use Rattle.component_reader.specs.Stretch.{partAnswer, partAnswered, componentIn, Shown};
-
-// Where the bytes of a component begin and end in a code, or the cause of a refusal.
-pub enum Stretch {
-    Part(usize, usize),
-    Refused(Refusal),
-}
+ghost use Rattle.memory.specs.Memory.{Holds};
+ghost use Rattle.memory.specs.Memory.{HeldSystem};
+ghost use Rattle.patterns.specs.Replies.{partAnswer};
+ghost use Rattle.patterns.specs.Entry.{partAnswered, componentIn};
+ghost use Rattle.patterns.specs.Entry.{Shown};
 
 // How many bytes a number takes.
 fn width(x: usize) -> usize

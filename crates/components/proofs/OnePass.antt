@@ -16,7 +16,7 @@ use Rattle.patterns.specs.Tree.{code, compareTree}
 use Rattle.patterns.specs.Component.{Component, points, flat, rotations, compareComponent, nonempty}
 use Rattle.patterns.proofs.Trees.{length-flat, flat-append, points-append, compareTree-lawful}
 use Rattle.patterns.proofs.Rotations.{rotation-append, split-of-rotation}
-use Rattle.components.specs.Held.{Held}
+use Rattle.memory.specs.Memory.{Held}
 use Rattle.components.proofs.Walks.{Along, Next, next-tree, next-stretch, along-next, along-step, along-end, along-whole, no-trees}
 use Rattle.components.proofs.Turning.{turned-trees}
 

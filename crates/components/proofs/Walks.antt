@@ -14,7 +14,8 @@ use Rattle.lists.proofs.Members.{in-append-right, in-head}
 use Rattle.patterns.specs.Tree.{Tree, point, merge, size, below, code, branches, graftOn, compareTree, lastAtMost, validTree}
 use Rattle.patterns.specs.Component.{Component, points, flat}
 use Rattle.patterns.proofs.Trees.{size-positive, length-below, length-code, length-flat, points-append, flat-append, code-injective, flat-injective, graft-branches, valid-merge}
-use Rattle.components.specs.Held.{Held, HeldTree, lastStart, leadingPoints}
+use Rattle.memory.specs.Memory.{Held, HeldTree}
+use Rattle.components.specs.Held.{lastStart, leadingPoints}
 
 -- the tree that begins at a place: its size is the number there, and its code the stretch of so many numbers
 pub record Next (s : List ℕ) (at : ℕ) (rest : Component) : Type 0 where

@@ -11,14 +11,6 @@ use Rattle.components.specs.Path.{key, path}
 use Rattle.components.specs.declared.Climb.{Climb}
 use Rattle.components.specs.declared.Climb.the-variants.{Root, Key}
 
-pub record Held (s : List ℕ) : Type 0 where
-  pub trees : Component
-  pub is : s ≡ flat trees
-
-pub record HeldTree (s : List ℕ) : Type 0 where
-  pub tree : Tree
-  pub is : s ≡ code tree
-
 pub record HeldValid (s : List ℕ) : Type 0 where
   pub trees : Component
   pub is : s ≡ flat trees

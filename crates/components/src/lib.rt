@@ -17,7 +17,8 @@ ghost use Rattle.lists.proofs.Lex.{lexBy};
 ghost use Rattle.patterns.specs.Tree.{Tree, code, validTree};
 ghost use Rattle.patterns.specs.Component.{Component, flat, compareComponent, rotations, validComponent};
 ghost use Rattle.patterns.specs.System.{compareGenerated};
-ghost use Rattle.components.specs.Held.{Held, HeldTree, HeldBeside, HeldKeys, HeldTrace, HeldPair, leadingPoints, lastStart, Climbed, Traced};
+ghost use Rattle.memory.specs.Memory.{Held, HeldTree};
+ghost use Rattle.components.specs.Held.{HeldBeside, HeldKeys, HeldTrace, HeldPair, leadingPoints, lastStart, Climbed, Traced};
 
 // A step from a component to its parent: there is none, or the place of the component among its parent's candidates.
 pub enum Climb {

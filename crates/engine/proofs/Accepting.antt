@@ -8,10 +8,12 @@ use lib.ListN.{length, take, length-take}
 use Rattle.patterns.specs.declared.Refusal.{Refusal}
 use Rattle.patterns.specs.System.{System, weight, canonical}
 use Rattle.patterns.specs.Reading.{Result, done, fault, cut, readSystem, accepted}
-use Rattle.patterns.specs.Entry.{length-is, refused, numberOf, acceptOf}
+use Rattle.patterns.specs.Replies.{length-is, refused, numberOf}
+use Rattle.patterns.specs.Entry.{acceptOf}
 use Rattle.reading.specs.declared.Accepted.{Accepted}
 use Rattle.reading.specs.declared.Accepted.the-variants.{System as Held, Refused as NotAccepted}
-use Rattle.reading.specs.Held.{Holds, HeldSystem}
+use Rattle.memory.specs.Memory.{Holds}
+use Rattle.memory.specs.Memory.{HeldSystem}
 use Rattle.reading.specs.Shape.{acceptance, AcceptedInto}
 use Rattle.reading.proofs.Results.{Good, good-then, good-weaken, good-done}
 use Rattle.systems.proofs.Readback.{system-good, canonical-nonempty}
@@ -75,7 +77,7 @@ module _ {b sizes numbers : List ℕ} {m n : ℕ} (t : Taken b sizes numbers m n
 
   pub taken-held : HeldSystem (take m sizes) (take n numbers)
   taken-held =
-      record { system = t .system; holds = t .holds; trees = canonical-nonempty (t .system) (t .canonical-is); small = t .small }
+      record { system = t .system; holds = t .holds; each-nonempty = canonical-nonempty (t .system) (t .canonical-is); small = t .small }
 
   pub taken-count : m ≤ length sizes
   taken-count = omega (arith, held-count (t .holds), length-take m sizes, t .count)

@@ -13,8 +13,10 @@ use Rattle.patterns.specs.Written.{written}
 use Rattle.patterns.specs.Table.{systemOfTable}
 use Rattle.patterns.specs.MapOf.{mapOf}
 use Rattle.patterns.specs.Reading.{done, fault, accepted}
-use Rattle.patterns.specs.Entry.{Answer, refused, numberOf, gives, Replied, checkedTable, codeOfMap, mapOfCode}
-use Rattle.reading.specs.Held.{Holds, HeldSystem}
+use Rattle.patterns.specs.Replies.{Answer, refused, numberOf}
+use Rattle.patterns.specs.Entry.{gives, Replied, checkedTable, codeOfMap, mapOfCode}
+use Rattle.memory.specs.Memory.{Holds}
+use Rattle.memory.specs.Memory.{HeldSystem}
 use Rattle.systems.specs.Held.{Wrote}
 use Rattle.systems.proofs.Parts.{length-numbers, held-points}
 use Rattle.maps.specs.Images.{HeldMap}

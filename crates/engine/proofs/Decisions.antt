@@ -13,14 +13,14 @@ use Rattle.patterns.specs.declared.Refusal.the-variants.{Room}
 use Rattle.patterns.specs.Census.{Row}
 use Rattle.patterns.specs.Reading.{done, fault}
 use Rattle.patterns.specs.Entry.{checkedTable, table-refused, counted, CensusReplied}
-use Rattle.census.specs.declared.Row.{Row as Entry}
+use Rattle.patterns.specs.declared.reply.Row.{Row as Entry}
 use Rattle.census.specs.declared.Rows.{Rows}
 use Rattle.census.specs.Rows.{rowsIn, CensusOf}
-use Rattle.census.specs.Entries.{rowOf}
+use Rattle.patterns.specs.Replies.{rowOf}
 use Rattle.census.proofs.CensusRows.{rows-length}
 use Rattle.engine.specs.declared.Decision.{Decision}
-use Rattle.engine.specs.declared.reply.Census.the-variants.{Counted}
-use Rattle.engine.specs.Answers.{censusAnswer}
+use Rattle.patterns.specs.declared.reply.Census.the-variants.{Counted}
+use Rattle.patterns.specs.Replies.{censusAnswer}
 use Rattle.engine.specs.Decisions.{rowsFilled, Refuses, Decided}
 
 -- a bad table

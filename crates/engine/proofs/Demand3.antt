@@ -12,12 +12,12 @@ use Rattle.patterns.specs.MapOf.{mapOf}
 use Rattle.patterns.specs.Table.{systemOfTable}
 use Rattle.patterns.specs.Reading.{done}
 use Rattle.patterns.specs.Entry.{checkedTable, codeOfMap}
-use Rattle.systems.specs.Calls.{Call, Calls, fresh, Listing}
-use Rattle.systems.proofs.Calls.{listing, calls-exist}
+use Rattle.patterns.specs.Calls.{Call, Calls, fresh, Enumeration}
+use Rattle.systems.proofs.Calls.{enumeration, calls-exist}
 use Rattle.systems.proofs.WrittenBack.{written-equal}
 use Rattle.maps.proofs.MapOf.{length-mapOf, mapOf-table}
 use Rattle.maps.proofs.Theorems.{table-canonical, table-weight, system-of-map, renaming-system, system-same-isomorphic}
-use Rattle.engine.specs.Maps.{Map, codeOf, Isomorphic}
+use Rattle.patterns.specs.Calls.{Map, codeOf, Isomorphic}
 
 module _ {n : ℕ} (small : n ≤ 200) where
   -- a map's table passes the checks
@@ -54,10 +54,10 @@ module _ {n : ℕ} (small : n ≤ 200) where
       (omega (arith, map-weight f)) (omega (arith, map-weight g))
       (sym (code-written f) ∙ e ∙ code-written g))
 
-  -- For every n up to 200, every list of lent buffers and every list of calls made with them: see `Listing`.
-  pub demand-3 : {buffers : List (List ℕ)} {calls : List Call} → Calls n fresh buffers calls → Listing n (Map n) codeOf Isomorphic buffers calls
+  -- For every n up to 200, every list of lent buffers and every list of calls made with them: see `Enumeration`.
+  pub demand-3 : {buffers : List (List ℕ)} {calls : List Call} → Calls n fresh buffers calls → Enumeration n buffers calls
   demand-3 made =
-      listing small codeOf Isomorphic
+      enumeration small
       (λ f. (systemOfTable (f .table), map-canonical f, map-weight f, code-written f))
       code-map one-code code-isomorphic made
 

@@ -24,7 +24,8 @@ use Rattle.patterns.specs.Table.{image, systemOfTable}
 use Rattle.patterns.specs.MapOf.{mapOf}
 use Rattle.patterns.specs.Isomorphism.{Isomorphism}
 use Rattle.patterns.specs.Reading.{done, fault}
-use Rattle.patterns.specs.Entry.{Answer, gives, lacks, fails, none-exists, refused, numberOf, checkedTable, IsomorphismReplied, first-refused, second-refused, found, lengths-differ, not-found}
+use Rattle.patterns.specs.Replies.{Answer, lacking, refused, numberOf}
+use Rattle.patterns.specs.Entry.{gives, lacks, fails, checkedTable, IsomorphismReplied, first-refused, second-refused, found, lengths-differ, not-found}
 use Rattle.systems.proofs.WrittenBack.{written-equal}
 use Rattle.maps.proofs.MapOf.{length-mapOf, mapOf-table}
 use Rattle.lists.proofs.Gathering.{perm-nodup}
@@ -41,13 +42,13 @@ table-passes {f} t = rw (le-ltb 200 (length f) (t .small), t .table)
 -- Answers before any isomorphism is looked for: buffers are kept.
 module _ (f g before : List ℕ) where
   pub first-bad : (c : Refusal) → checkedTable f ≡ fault c → IsomorphismReplied f g before (refused (numberOf c)) before
-  first-bad c e = record { found = fails c; isomorphic = first-refused e; replied = record { reply = refl; output = refl } }
+  first-bad c e = record { found = fails c; isFound = first-refused e; replied = record { reply = refl; output = refl } }
 
   pub second-bad : Table f → (c : Refusal) → checkedTable g ≡ fault c → IsomorphismReplied f g before (refused (numberOf c)) before
-  second-bad t c e = record { found = fails c; isomorphic = second-refused (table-passes t) e; replied = record { reply = refl; output = refl } }
+  second-bad t c e = record { found = fails c; isFound = second-refused (table-passes t) e; replied = record { reply = refl; output = refl } }
 
-  pub lengths-bad : Table f → Table g → (length f ≡ length g → ⊥) → IsomorphismReplied f g before none-exists before
-  lengths-bad t u h = record { found = lacks; isomorphic = lengths-differ (table-passes t) (table-passes u) h; replied = record { reply = refl; output = refl } }
+  pub lengths-bad : Table f → Table g → (length f ≡ length g → ⊥) → IsomorphismReplied f g before lacking before
+  lengths-bad t u h = record { found = lacks; isFound = lengths-differ (table-passes t) (table-passes u) h; replied = record { reply = refl; output = refl } }
 
 -- the points of a table with its code are all different
 pub points-different : {n : ℕ} {m f a : List ℕ} → Isomorphism n m f a → (i j : ℕ) → i < n → j < n → image a i ≡ image a j → i ≡ j
@@ -94,11 +95,11 @@ module _ {f g : List ℕ} (t : SameLength f g) {a b code other : List ℕ} {end 
 
   -- the codes differ: there is no isomorphism
   pub codes-differ : (o : Order) → orderingOf o ≡ lex compare (take end code) (take stop other) → (orderingOf o ≡ Ordering·eq → ⊥)
-      → (before : List ℕ) → IsomorphismReplied f g before none-exists before
+      → (before : List ℕ) → IsomorphismReplied f g before lacking before
   codes-differ o e k before =
       record {
         found = lacks;
-        isomorphic = not-found (table-passes (t .first)) (table-passes (t .second)) (sym (t .same)) (other-codes o e k);
+        isFound = not-found (table-passes (t .first)) (table-passes (t .second)) (sym (t .same)) (other-codes o e k);
         replied = record { reply = refl; output = refl };
       }
 
@@ -114,7 +115,7 @@ module _ {f g : List ℕ} (t : SameLength f g) {a b code other : List ℕ} {end 
       subst (λ R. Isomorphism n (mapOf R) g b) (sym (same-codes o e k)) (subst (λ j. Isomorphism j (mapOf (systemOfTable g)) g b) (t .same) (q .points-are)) in
       record {
         found = gives (w .table);
-        isomorphic =
+        isFound =
             found (table-passes (t .first)) (table-passes (t .second)) (sym (t .same))
             (isomorphism-through (table-below n (mapOf S) (length-mapOf S ∙ heavy) (mapOf-table S)) (p .points-are) beside (w .is .places ∙ l)
             (λ j h. w .is .sends j (omega arith)));

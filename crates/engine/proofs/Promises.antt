@@ -12,10 +12,10 @@ use prog.Wp.{Heap}
 use ghost.Atoms.{Atoms}
 use contract.Monad.{Fun, fact}
 use Rattle.patterns.specs.Entry.{Replied, acceptOf, firstOf, successorOf, codeOfMap, mapOfCode, IsomorphismReplied, CensusReplied}
-use Rattle.written.specs.Putting.{answerOf}
-use Rattle.engine.specs.Answers.{successorAnswer, isomorphismAnswer, censusAnswer}
-use Rattle.census.specs.Entries.{rowOf}
-use Rattle.engine.specs.Rows.{RowsReplied}
+use Rattle.patterns.specs.Replies.{answerOf}
+use Rattle.patterns.specs.Replies.{successorAnswer, isomorphismAnswer, censusAnswer}
+use Rattle.patterns.specs.Replies.{rowOf}
+use Rattle.patterns.specs.Entry.{RowsReplied}
 use Rattle.engine.proofs.accept.Reads as accept
 use Rattle.engine.proofs.accept.Kinds as accept-kinds
 use Rattle.engine.proofs.first.Reads as first

@@ -10,12 +10,13 @@ use lib.Seq.{take-suc, drop-cons, set-at, append-snoc, length-take-le, drop-drop
 use Rattle.patterns.specs.Census.{Row}
 use Rattle.patterns.specs.Entry.{CensusReplied}
 use Rattle.census.specs.declared.Rows.{Rows}
-use Rattle.census.specs.Rows.{rowsOf}
+use Rattle.patterns.specs.Census.{rowsOf}
 use Rattle.census.proofs.Filling.{rows-append}
 use Rattle.engine.specs.declared.Decision.{Decision}
-use Rattle.engine.specs.Answers.{censusAnswer}
+use Rattle.patterns.specs.Replies.{censusAnswer}
 use Rattle.engine.specs.Decisions.{rowsFilled, Decided}
-use Rattle.engine.specs.Rows.{RowsReplied, ColumnsPut}
+use Rattle.patterns.specs.Entry.{RowsReplied}
+use Rattle.engine.specs.Rows.{ColumnsPut}
 
 copy-next : (s d : List ℕ) (i : ℕ) → i < length s → i < length d → set (take i s ++ drop i d) i (getD s i 0) ≡ take (i + 1) s ++ drop (i + 1) d
 copy-next s d i hs hd =

@@ -9,7 +9,8 @@ use lib.Seq.{getD-set-same, getD-set-other, take-at}
 use borrow.Author.Tests.{eqb-true, eqb-false}
 use Rattle.lists.proofs.Tests.{by-test}
 use Rattle.patterns.specs.Table.{image}
-use Rattle.patterns.specs.Entry.{Answer, Replied, gives}
+use Rattle.patterns.specs.Replies.{Answer}
+use Rattle.patterns.specs.Entry.{Replied, gives}
 use Rattle.engine.specs.Tables.{Matched, Sends, SendsPut}
 
 -- The first j points are sent.

@@ -17,7 +17,8 @@ use Rattle.patterns.specs.MapOf.{mapOf}
 use Rattle.patterns.specs.Table.{isTable, systemOfTable}
 use Rattle.patterns.specs.Isomorphism.{Isomorphism}
 use Rattle.patterns.specs.Reading.{Result, done, fault, accepted}
-use Rattle.patterns.specs.Entry.{Answer, length-is, none-exists, refused, Outcome, gives, ends, lacks, fails, outcome, answered, Replied, checkedTable, codeOfMap, mapOfCode, Isomorphic, IsomorphismReplied, first-refused, second-refused, found, lengths-differ, not-found}
+use Rattle.patterns.specs.Replies.{Answer, length-is, lacking, refused}
+use Rattle.patterns.specs.Entry.{Outcome, gives, ends, lacks, fails, outcome, answered, Replied, checkedTable, codeOfMap, mapOfCode, IsomorphismFound, IsomorphismReplied, first-refused, second-refused, found, lengths-differ, not-found}
 use Rattle.systems.proofs.Bounds.{allBelow}
 use Rattle.systems.proofs.WrittenBack.{accepted-is, written-equal}
 use Rattle.maps.proofs.MapOf.{length-mapOf, mapOf-table}
@@ -72,7 +73,7 @@ code-fills f {before} {after} {a} h t p room =
     (q .reply ∙ rw e, ap (take (length b)) (q .output ∙ rw e) ∙ take-at b (drop (length b) before) (length b) refl)
 
 -- an isomorphism or none: what was found where a length is the reply
-found-gives : (f g l : List ℕ) → Isomorphic f g (gives l) → Isomorphism (length f) f g l
+found-gives : (f g l : List ℕ) → IsomorphismFound f g (gives l) → Isomorphism (length f) f g l
 found-gives f g l (found p q e i) = i
 
 -- The table that "isomorphism" writes is an isomorphism from the first map to the second.
@@ -80,7 +81,7 @@ pub isomorphism-written : {f g before after : List ℕ} {n : ℕ} → Isomorphis
     → (n ≡ length f) × Isomorphism n f g (take n after)
 isomorphism-written {f} {g} {before} {after} {n} p =
     let r = result-written (p .found) (p .replied) in
-    let i : Isomorphism (length f) f g (r .0) = found-gives f g (r .0) (rw (r .1) at (p .isomorphic)) in
+    let i : Isomorphism (length f) f g (r .0) = found-gives f g (r .0) (rw (r .1) at (p .isFound)) in
     let e : n ≡ length f = r .2 ∙ i .points in
     (e, subst (λ k. Isomorphism k f g (take n after)) (sym e) (subst (Isomorphism (length f) f g) (sym (r .3)) i))
 
@@ -118,26 +119,26 @@ module _ (f g : List ℕ) (c : checkedTable f ≡ done f) (d : checkedTable g �
       ∙ sym (code-gives g (second-table .small) (second-table .table))
 
   -- Two maps with the same code: the reply is not "none".
-  pub same-code-found : {before after : List ℕ} → codeOfMap f ≡ codeOfMap g → IsomorphismReplied f g before none-exists after → ⊥
-  same-code-found {before} {after} e p = of (p .found) (p .isomorphic) (p .replied .reply)
+  pub same-code-found : {before after : List ℕ} → codeOfMap f ≡ codeOfMap g → IsomorphismReplied f g before lacking after → ⊥
+  same-code-found {before} {after} e p = of (p .found) (p .isFound) (p .replied .reply)
     where
-      of : (o : Outcome ℕ) → Isomorphic f g o → none-exists ≡ answered o before → ⊥
+      of : (o : Outcome ℕ) → IsomorphismFound f g o → lacking ≡ answered o before → ⊥
       of o (first-refused q) k = first-fails q
       of o (second-refused q u) k = second-fails u
       of o (found {r = r} q u l i) k =
           by-test (leb (length r) (length before))
-          (λ t. let y : none-exists ≡ length-is (length r) = k ∙ rw t in let z : _≡_ {A = ℕ} 0 1 = cc in omega arith)
-          (λ t. let y : none-exists ≡ refused 8 = k ∙ rw t in let z : _≡_ {A = ℕ} 0 1 = cc in omega arith)
+          (λ t. let y : lacking ≡ length-is (length r) = k ∙ rw t in let z : _≡_ {A = ℕ} 0 1 = cc in omega arith)
+          (λ t. let y : lacking ≡ refused 8 = k ∙ rw t in let z : _≡_ {A = ℕ} 0 1 = cc in omega arith)
       of o (lengths-differ q u h) k = h (sym first-weight ∙ ap weight (same-systems e) ∙ second-weight)
       of o (not-found q u l h) k =
           let i = system-same-isomorphic (length f) f g refl (first-table .table) (sym l) (second-table .table) (same-systems e) in
           h (i .0) (i .1)
 
   -- Two maps with different codes: the reply is "none".
-  pub other-code-none : {before after : List ℕ} {a : Answer} → (codeOfMap f ≡ codeOfMap g → ⊥) → IsomorphismReplied f g before a after → a ≡ none-exists
-  other-code-none {before} {after} {a} h p = of (p .found) (p .isomorphic) (p .replied .reply)
+  pub other-code-none : {before after : List ℕ} {a : Answer} → (codeOfMap f ≡ codeOfMap g → ⊥) → IsomorphismReplied f g before a after → a ≡ lacking
+  other-code-none {before} {after} {a} h p = of (p .found) (p .isFound) (p .replied .reply)
     where
-      of : (o : Outcome ℕ) → Isomorphic f g o → a ≡ answered o before → a ≡ none-exists
+      of : (o : Outcome ℕ) → IsomorphismFound f g o → a ≡ answered o before → a ≡ lacking
       of o (first-refused q) k = absurd (first-fails q)
       of o (second-refused q u) k = absurd (second-fails u)
       of o (found {r = r} q u l i) k = absurd (h (same-codes (renaming-system (length f) f g r refl (first-table .table) (sym l) i)))

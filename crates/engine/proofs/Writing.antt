@@ -15,8 +15,10 @@ use Rattle.patterns.specs.Tree.{point}
 use Rattle.patterns.specs.System.{System, weight, canonical, codes, compareSystem}
 use Rattle.patterns.specs.Written.{written}
 use Rattle.patterns.specs.Reading.{fault, accepted}
-use Rattle.patterns.specs.Entry.{Answer, last, refused, numberOf, gives, listed, Replied, firstOf, successorOf}
-use Rattle.reading.specs.Held.{Holds, HeldSystem}
+use Rattle.patterns.specs.Replies.{Answer, last, refused, numberOf}
+use Rattle.patterns.specs.Entry.{gives, listed, Replied, firstOf, successorOf}
+use Rattle.memory.specs.Memory.{Holds}
+use Rattle.memory.specs.Memory.{HeldSystem}
 use Rattle.systems.specs.declared.Stepped.{Stepped}
 use Rattle.systems.specs.declared.Stepped.the-variants.{Next, Last}
 use Rattle.systems.specs.Held.{Wrote, HeldWritable, HeldStep, SteppedTo}
@@ -31,13 +33,13 @@ use Rattle.engine.proofs.Accepting.{Taken, taken-count}
 
 -- a canonical system that is held
 pub canonical-held : {S : System} {sizes numbers : List ℕ} → Holds S sizes numbers → canonical S ≡ true → weight S ≤ 200 → HeldSystem sizes numbers
-canonical-held {S} h c w = record { system = S; holds = h; trees = canonical-nonempty S c; small = w }
+canonical-held {S} h c w = record { system = S; holds = h; each-nonempty = canonical-nonempty S c; small = w }
 
 module _ {sizes numbers : List ℕ} (h : HeldSystem sizes numbers) where
   -- there is room for its code
   pub code-fits : (out : List ℕ) → length out ≡ 1000 → HeldWritable sizes numbers out 4
   code-fits out e =
-      let few = components-points (h .system) (h .trees) in
+      let few = components-points (h .system) (h .each-nonempty) in
       let m = held-count (h .holds) in
       let n = held-points (h .holds) in
       record {

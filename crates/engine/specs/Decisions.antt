@@ -8,10 +8,11 @@ use Rattle.patterns.specs.Census.{Row}
 use Rattle.patterns.specs.Reading.{done}
 use Rattle.patterns.specs.Entry.{checkedTable, CensusReplied}
 use Rattle.census.specs.declared.Rows.{Rows}
-use Rattle.census.specs.Rows.{rowsOf, CensusOf}
+use Rattle.patterns.specs.Census.{rowsOf}
+use Rattle.census.specs.Rows.{CensusOf}
 use Rattle.engine.specs.declared.Decision.{Decision}
-use Rattle.engine.specs.declared.reply.Census.the-variants.{Refused}
-use Rattle.engine.specs.Answers.{censusAnswer}
+use Rattle.patterns.specs.declared.reply.Census.the-variants.{Refused}
+use Rattle.patterns.specs.Replies.{censusAnswer}
 
 -- the rows that d writes
 abbrev pub rowsFilled : Decision → List Row

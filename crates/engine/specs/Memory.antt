@@ -5,7 +5,7 @@ use mathlib.Core.List.{List}
 use Prim.Native.Nat.{ℕ, _≤_}
 use lib.ListN.{length, take}
 use Rattle.patterns.specs.System.{System, canonical}
-use Rattle.reading.specs.Held.{Holds}
+use Rattle.memory.specs.Memory.{Holds}
 
 -- a canonical system of at most 200 points, its sizes in the first m of 200 places
 pub record HeldNext (sizes : List ℕ) (m : ℕ) (numbers : List ℕ) : Type 0 where

@@ -4,15 +4,10 @@ use mathlib.Core.Path.{_≡_}
 use mathlib.Core.List.{List, _++_}
 use Prim.Native.Nat.{ℕ}
 use lib.ListN.{length, take, drop}
-use Rattle.patterns.specs.Entry.{CensusAnswer, CensusReplied}
+use Rattle.patterns.specs.Replies.{CensusAnswer}
+use Rattle.patterns.specs.Entry.{CensusReplied}
 use Rattle.census.specs.declared.Rows.{Rows}
-use Rattle.census.specs.Rows.{rowsOf}
-
--- the promise of the census entry for such rows, and what stands behind them in the longer slice is kept
-pub record RowsReplied (f lengths counts : List ℕ) (answer : CensusAnswer) (lengths′ counts′ : List ℕ) : Type 0 where
-  pub rows : CensusReplied f (rowsOf lengths counts) answer (rowsOf lengths′ counts′)
-  pub lengths-kept : drop (length (rowsOf lengths counts)) lengths′ ≡ drop (length (rowsOf lengths counts)) lengths
-  pub counts-kept : drop (length (rowsOf lengths counts)) counts′ ≡ drop (length (rowsOf lengths counts)) counts
+use Rattle.patterns.specs.Census.{rowsOf}
 
 -- the first n rows fill the first places of both slices
 pub record ColumnsPut (rows : Rows) (n : ℕ) (lengths counts lengths′ counts′ : List ℕ) : Type 0 where

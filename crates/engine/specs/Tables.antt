@@ -9,9 +9,11 @@ use Rattle.patterns.specs.MapOf.{mapOf}
 use Rattle.patterns.specs.Isomorphism.{Isomorphism}
 use Rattle.patterns.specs.Written.{written}
 use Rattle.patterns.specs.Reading.{Result, done, fault}
-use Rattle.patterns.specs.Entry.{Answer, Replied, gives}
-use Rattle.written.specs.declared.Reply.{Reply}
-use Rattle.written.specs.declared.Reply.the-variants.{Length, Refused}
+use Rattle.patterns.specs.Replies.{Answer}
+use Rattle.patterns.specs.Entry.{Replied, gives}
+use Rattle.patterns.specs.declared.reply.Reply.{Reply}
+use Rattle.patterns.specs.declared.reply.Reply.the-variants.{Length}
+use Rattle.written.specs.declared.Cut.the-variants.{Refused}
 use Rattle.systems.specs.Held.{Wrote}
 
 -- the number of points of a table that passes the checks

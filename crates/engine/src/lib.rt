@@ -1,8 +1,5 @@
 // The public entries of the marking engine. None relies on its caller: whatever tables, bytes and buffers come in, the reply and the content of every lent
 // buffer are those of the definitions [crates/patterns/specs/Entry.antt].
-mod reply;
-
-pub use census::Row;
 use census::Rows;
 use census::census as census_of;
 use census::fill;
@@ -10,18 +7,19 @@ use lists::Order;
 use lists::compare;
 use maps::map_of;
 use maps::mark_cycles;
+pub use patterns::Census;
+pub use patterns::Isomorphism;
 use patterns::Refusal;
+pub use patterns::Reply;
+pub use patterns::Row;
+pub use patterns::Successor;
 use patterns::points_room;
 use reading::Accepted;
 use reading::accept_into;
-pub use reply::Census;
-pub use reply::Isomorphism;
-pub use reply::Successor;
 use systems::Stepped;
 use systems::first_system;
 use systems::next_system;
 use systems::write_system;
-use written::Reply;
 use written::put;
 ghost use denote.Ref.{now};
 ghost use mathlib.Core.Path.{_≡_};
@@ -35,13 +33,15 @@ ghost use Rattle.patterns.specs.MapOf.{mapOf};
 ghost use Rattle.patterns.specs.Table.{systemOfTable};
 ghost use Rattle.patterns.specs.Entry.{Replied, Outcome.gives, listed, checkedTable};
 ghost use Rattle.patterns.specs.Entry.{acceptOf, firstOf, successorOf, mapOfCode, codeOfMap, IsomorphismReplied, CensusReplied};
-ghost use Rattle.written.specs.Putting.{answerOf};
-ghost use Rattle.reading.specs.Held.{Holds, HeldSystem};
-ghost use Rattle.engine.specs.Answers.{successorAnswer, isomorphismAnswer, censusAnswer};
+ghost use Rattle.patterns.specs.Replies.{answerOf};
+ghost use Rattle.memory.specs.Memory.{Holds};
+ghost use Rattle.memory.specs.Memory.{HeldSystem};
+ghost use Rattle.patterns.specs.Replies.{successorAnswer, isomorphismAnswer, censusAnswer};
 ghost use Rattle.engine.specs.Memory.{HeldNext};
 ghost use Rattle.engine.specs.Tables.{tableReply, Table, CodeAsked, CodeWritten, Matched, Sends, SendsPut, SameLength};
-ghost use Rattle.census.specs.Entries.{rowOf};
-ghost use Rattle.engine.specs.Rows.{ColumnsPut, RowsReplied};
+ghost use Rattle.patterns.specs.Replies.{rowOf};
+ghost use Rattle.engine.specs.Rows.{ColumnsPut};
+ghost use Rattle.patterns.specs.Entry.{RowsReplied};
 ghost use Rattle.engine.specs.Decisions.{Refuses, RowsDecided, Decided};
 
 // Room for every written code.
@@ -263,8 +263,8 @@ fn put_isomorphism(f: &[u8], g: &[u8], out: &mut [u8]) -> Isomorphism
     let end = write_code(f, &mut a[..n], &mut code);
     let stop = write_code(g, &mut b[..n], &mut other);
     match compare(&code[..end], &other[..stop]) {
-        Order::Less => Isomorphism::Nothing,
-        Order::Greater => Isomorphism::Nothing,
+        Order::Less => Isomorphism::Lacking,
+        Order::Greater => Isomorphism::Lacking,
         Order::Equal => put_sent(&a[..n], &b[..n], out),
     }
 }
@@ -278,7 +278,7 @@ fn isomorphism_to(f: &[u8], g: &[u8], out: &mut [u8]) -> Isomorphism
         Reply::Refused(cause) => Isomorphism::Refused(cause),
         Reply::Length(n) => {
             if f.len() != n {
-                return Isomorphism::Nothing;
+                return Isomorphism::Lacking;
             }
             put_isomorphism(f, g, out)
         }

@@ -1,10 +1,10 @@
 // The listing program [document 01, "Sheet of examples"]: it reads a count of points and writes every code of so many points, in the order of the list.
 pub mod text;
 
-use engine::Successor;
 use libc::STDIN_FILENO;
 use libc::STDOUT_FILENO;
-use written::Reply;
+use patterns::Reply;
+use patterns::Successor;
 ghost use denote.Ref.{now};
 ghost use mathlib.Core.Path.{_≡_};
 ghost use lib.ListN.{length};

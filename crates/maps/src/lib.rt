@@ -24,7 +24,7 @@ ghost use Rattle.patterns.specs.MapOf.{innerImages, cycleImages, mapOf};
 ghost use Rattle.patterns.specs.Table.{image, isTable};
 ghost use Rattle.written.specs.Putting.{placed};
 ghost use Rattle.maps.specs.Images.{Stands, TreeStands, ComponentStands, HeldMap};
-ghost use Rattle.components.specs.Held.{Held};
+ghost use Rattle.memory.specs.Memory.{Held};
 ghost use Rattle.maps.specs.Plants.{plantAt, plantsAlong};
 ghost use Rattle.maps.specs.Writing.{pointsBefore, RowStands, Inserts, TreeAsked, TreeOfLinks, CycleAsked, Planted, LeastStart, ComponentWritten};
 ghost use Rattle.maps.specs.Systems.{BothValid, PlaceAsked, PlaceFound, InsertAsked, ComponentInserted, SystemAsked, ComponentsAsked, SystemWritten};

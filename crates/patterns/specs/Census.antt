@@ -17,6 +17,12 @@ pub record Row : Type 0 where
   pub cycleLength : ℕ
   pub cycles : ℕ
 
+-- the rows of two lists side by side
+abbrev pub rowsOf : List ℕ → List ℕ → List Row
+rowsOf [] counts = []
+rowsOf (l ∷ lengths) [] = []
+rowsOf (l ∷ lengths) (c ∷ counts) = record { cycleLength = l; cycles = c } ∷ rowsOf lengths counts
+
 module _ (n : ℕ) (f : ℕ → ℕ) where
   -- the lengths of the cycles, one for each cycle
   unfoldable pub cycleLengths : List ℕ

@@ -1,40 +1,23 @@
 -- What each public entry answers, and what it leaves in the lent buffers: document 01, "Refusing".
+use denote.Ref.{RefT, ptr, now}
 use mathlib.Core.Path.{_≡_}
 use mathlib.Core.Bool.{cond}
 use mathlib.Core.List.{List, [], _∷_, _++_}
 use mathlib.Core.Option.{Option, none, some}
-use Prim.Native.Nat.{ℕ, _+_}
+use Prim.Native.Nat.{ℕ, _+_, _-_}
 use lib.Dec.{leb, ltb}
-use lib.ListN.{length, drop}
+use lib.ListN.{length, take, drop}
 use Rattle.lists.specs.Select.{first, next}
 use Rattle.patterns.specs.declared.Refusal.{Refusal}
-use Rattle.patterns.specs.declared.Refusal.the-variants.{Count, Image, Truncated, NumberForm, Sizes, NotCanonical, Trailing, Room, Position}
+use Rattle.patterns.specs.declared.Refusal.the-variants.{Count, Image, Room, Position}
 use Rattle.patterns.specs.System.{System, weight, codes, compareSystem}
 use Rattle.patterns.specs.Written.{written, startOf}
 use Rattle.patterns.specs.Reading.{Result, done, fault, andThen, accepted}
 use Rattle.patterns.specs.Table.{image, isTable, systemOfTable}
 use Rattle.patterns.specs.MapOf.{mapOf}
 use Rattle.patterns.specs.Isomorphism.{Isomorphism}
-use Rattle.patterns.specs.Census.{Row, Census, height, longestCycle}
-
--- the table of causes
-abbrev pub numberOf : Refusal → ℕ
-numberOf Count = 1
-numberOf Image = 2
-numberOf Truncated = 3
-numberOf NumberForm = 4
-numberOf Sizes = 5
-numberOf NotCanonical = 6
-numberOf Trailing = 7
-numberOf Room = 8
-numberOf Position = 9
-
--- A reply in document 01's words: a length (or n, or a number of entries), "last", "none", or a refusal with its number.
-pub data Answer : Type 0 where
-  length-is : ℕ → Answer
-  last : Answer
-  none-exists : Answer
-  refused : ℕ → Answer
+use Rattle.patterns.specs.Census.{Row, rowsOf, Census, height, longestCycle}
+use Rattle.patterns.specs.Replies.{numberOf, Answer, length-is, last, lacking, refused, CensusAnswer, census-is, census-refused, PartAnswer, part-is, part-refused}
 
 -- What an entry finds before it looks at the lent output: a result to write, "last", "none", or a refusal.
 pub data Outcome (A : Type 0) : Type 0 where
@@ -47,7 +30,7 @@ pub data Outcome (A : Type 0) : Type 0 where
 abbrev pub answered : {A : Type 0} → Outcome A → List A → Answer
 answered (gives l) out = cond (leb (length l) (length out)) (length-is (length l)) (refused (numberOf Room))
 answered ends out = last
-answered lacks out = none-exists
+answered lacks out = lacking
 answered (fails c) out = refused (numberOf c)
 
 -- the output afterwards: a result fills the first places, and the places after it keep what they held; without a result all is kept
@@ -108,28 +91,23 @@ unfolding accepted mapOf
 mapOfCode b = outcome (accepted b) (λ S. gives (mapOf S))
 
 -- Entry "renaming between two maps": which isomorphism is written is left open, and "none" is answered exactly where there is none.
-pub data Isomorphic (f g : List ℕ) : Outcome ℕ → Type 0 where
-  first-refused : {c : Refusal} → checkedTable f ≡ fault c → Isomorphic f g (fails c)
-  second-refused : {c : Refusal} → checkedTable f ≡ done f → checkedTable g ≡ fault c → Isomorphic f g (fails c)
-  found : {r : List ℕ} → checkedTable f ≡ done f → checkedTable g ≡ done g → length f ≡ length g → Isomorphism (length f) f g r → Isomorphic f g (gives r)
-  lengths-differ : checkedTable f ≡ done f → checkedTable g ≡ done g → (length f ≡ length g → ⊥) → Isomorphic f g lacks
-  not-found : checkedTable f ≡ done f → checkedTable g ≡ done g → length f ≡ length g → ((r : List ℕ) → Isomorphism (length f) f g r → ⊥) → Isomorphic f g lacks
+pub data IsomorphismFound (f g : List ℕ) : Outcome ℕ → Type 0 where
+  first-refused : {c : Refusal} → checkedTable f ≡ fault c → IsomorphismFound f g (fails c)
+  second-refused : {c : Refusal} → checkedTable f ≡ done f → checkedTable g ≡ fault c → IsomorphismFound f g (fails c)
+  found : {r : List ℕ} → checkedTable f ≡ done f → checkedTable g ≡ done g → length f ≡ length g → Isomorphism (length f) f g r → IsomorphismFound f g (gives r)
+  lengths-differ : checkedTable f ≡ done f → checkedTable g ≡ done g → (length f ≡ length g → ⊥) → IsomorphismFound f g lacks
+  not-found : checkedTable f ≡ done f → checkedTable g ≡ done g → length f ≡ length g → ((r : List ℕ) → Isomorphism (length f) f g r → ⊥) → IsomorphismFound f g lacks
 
 -- the reply of that entry
 pub record IsomorphismReplied (f g before : List ℕ) (answer : Answer) (after : List ℕ) : Type 0 where
   pub found : Outcome ℕ
-  pub isomorphic : Isomorphic f g found
+  pub isFound : IsomorphismFound f g found
   pub replied : Replied found before answer after
 
 -- Entry "census of a map": the rows that it writes, in an order left open
 pub data Counted (f : List ℕ) : Result (List Row) → Type 0 where
   table-refused : {c : Refusal} → checkedTable f ≡ fault c → Counted f (fault c)
   counted : {rows : List Row} → checkedTable f ≡ done f → Census (length f) (image f) rows → Counted f (done rows)
-
--- the number of entries, the greatest distance of a point from its cycle and the longest cycle, or a refusal with its number
-pub data CensusAnswer : Type 0 where
-  census-is : ℕ → ℕ → ℕ → CensusAnswer
-  census-refused : ℕ → CensusAnswer
 
 abbrev pub censusAnswered : List ℕ → Result (List Row) → List Row → CensusAnswer
 censusAnswered f (done rows) out =
@@ -144,7 +122,34 @@ pub record CensusReplied (f : List ℕ) (before : List Row) (answer : CensusAnsw
   pub reply : answer ≡ censusAnswered f found before
   pub output : after ≡ filled (outcome found gives) before
 
--- Entry "component reader": where the bytes of the component at position i begin and end in the code
+-- the same in two lent lists of numbers: the rows are the cycle lengths in one with the numbers of cycles beside them in the other, as many as the shorter has
+-- places, and what stands behind them in the longer is kept
+pub record RowsReplied (f lengths counts : List ℕ) (answer : CensusAnswer) (lengths′ counts′ : List ℕ) : Type 0 where
+  pub rows : CensusReplied f (rowsOf lengths counts) answer (rowsOf lengths′ counts′)
+  pub lengths-kept : drop (length (rowsOf lengths counts)) lengths′ ≡ drop (length (rowsOf lengths counts)) lengths
+  pub counts-kept : drop (length (rowsOf lengths counts)) counts′ ≡ drop (length (rowsOf lengths counts)) counts
+
+-- where the bytes of the component at position i begin and end in the code of S
+abbrev pub componentIn : System → ℕ → Result (ℕ × ℕ)
+componentIn S i = cond (ltb i (length S)) (done (startOf S i, startOf S (i + 1))) (fault Position)
+
+-- Entry "component reader": the same for a written code
 unfoldable pub componentOf : List ℕ → ℕ → Result (ℕ × ℕ)
 unfolding accepted startOf
-componentOf b i = andThen (accepted b) (λ S. cond (ltb i (length S)) (done (startOf S i, startOf S (i + 1))) (fault Position))
+componentOf b i = andThen (accepted b) (λ S. componentIn S i)
+
+-- the reply of that entry
+abbrev pub partAnswered : Result (ℕ × ℕ) → PartAnswer
+partAnswered (done place) = part-is (place .0) (place .1)
+partAnswered (fault c) = part-refused (numberOf c)
+
+-- part is the part of code from start to end: those bytes, and in the very place in memory where they stand in code
+pub record PartOf (code : RefT (List ℕ)) (start end : ℕ) (part : RefT (List ℕ)) : Type 0 where
+  pub bytes-are : now part ≡ take (end - start) (drop start (now code))
+  pub block : ptr part .0 ≡ ptr code .0
+  pub place : ptr part .1 ≡ ptr code .1 + start
+
+-- what that entry shows: the component's part of the code, and where there is a refusal a part of no bytes
+abbrev pub Shown : RefT (List ℕ) → Result (ℕ × ℕ) → RefT (List ℕ) → Type 0
+Shown code (done place) part = PartOf code (place .0) (place .1) part
+Shown code (fault c) part = PartOf code 0 0 part

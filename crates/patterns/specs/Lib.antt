@@ -9,5 +9,8 @@ pub mod Table
 pub mod MapOf
 pub mod Isomorphism
 pub mod Census
+pub mod Replies
 pub mod Entry
+pub mod Calls
+pub mod SignedReplies
 pub mod Sheet

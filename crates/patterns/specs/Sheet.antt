@@ -3,7 +3,8 @@ use mathlib.Core.Path.{_≡_}
 use mathlib.Core.List.{List, [], _∷_}
 use Prim.Native.Nat.{ℕ}
 use Rattle.patterns.specs.Isomorphism.{isomorphisms}
-use Rattle.patterns.specs.Entry.{Answer, refused, gives, ends, acceptOf, codeOfMap, successorOf}
+use Rattle.patterns.specs.Replies.{Answer, refused}
+use Rattle.patterns.specs.Entry.{gives, ends, acceptOf, codeOfMap, successorOf}
 
 pub data Example : Type 0 where
   table-has-code : List ℕ → List ℕ → Example
@@ -13,17 +14,17 @@ pub data Example : Type 0 where
   refused-with : ℕ → List ℕ → Example
 
 -- what an example claims; that an isomorphism is the one there is, or that there is none, is claimed over all tables
-unfoldable pub Holds : Example → Type 0
-Holds (table-has-code f b) = codeOfMap f ≡ gives b
-Holds (successor-of b d) = successorOf b ≡ gives d
-Holds (no-successor b) = successorOf b ≡ ends
-Holds (isomorphisms-of f g rs) = isomorphisms f g ≡ rs
-Holds (refused-with k b) = acceptOf b ≡ refused k
+unfoldable pub Claim : Example → Type 0
+Claim (table-has-code f b) = codeOfMap f ≡ gives b
+Claim (successor-of b d) = successorOf b ≡ gives d
+Claim (no-successor b) = successorOf b ≡ ends
+Claim (isomorphisms-of f g rs) = isomorphisms f g ≡ rs
+Claim (refused-with k b) = acceptOf b ≡ refused k
 
 unfoldable pub AllHold : List Example → Type 0
-unfolding Holds
+unfolding Claim
 AllHold [] = Unit {0}
-AllHold (e ∷ es) = Holds e × AllHold es
+AllHold (e ∷ es) = Claim e × AllHold es
 
 unfoldable pub sheet : List Example
 sheet =

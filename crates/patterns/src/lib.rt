@@ -1,7 +1,16 @@
-// The causes of a refusal [document 01, "Refusing"], with the numbers that document 01 gives them, and room for the numbers of the largest map.
+// The causes of a refusal [document 01, "Refusing"] with the numbers that document 01 gives them, the replies of the public entries, and room for a number
+// for each point of the largest map.
+mod reply;
+
+pub use reply::Census;
+pub use reply::Isomorphism;
+pub use reply::Reply;
+pub use reply::Row;
+pub use reply::Stretch;
+pub use reply::Successor;
 ghost use mathlib.Core.Path.{_≡_};
 ghost use lib.ListN.{length};
-ghost use Rattle.patterns.specs.Entry.{numberOf};
+ghost use Rattle.patterns.specs.Replies.{numberOf};
 
 pub enum Refusal {
     Count,

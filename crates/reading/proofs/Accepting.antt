@@ -21,7 +21,8 @@ use Rattle.written.specs.Cutting.{stored, CutInto}
 use Rattle.written.proofs.Cutting.{numbers-cut, refusal-cut}
 use Rattle.reading.specs.declared.Accepted.{Accepted}
 use Rattle.reading.specs.declared.Accepted.the-variants.{System as Held, Refused as NotAccepted}
-use Rattle.reading.specs.Held.{Holds, HeldSystem}
+use Rattle.memory.specs.Memory.{Holds}
+use Rattle.memory.specs.Memory.{HeldSystem}
 use Rattle.reading.specs.Walking.{readComponent}
 use Rattle.reading.specs.Shape.{ended, shapeBody, shape, checked, acceptance, AcceptedInto, FirstNumbers}
 use Rattle.reading.proofs.Results.{Good, good-then, good-mapped, good-done}
@@ -107,7 +108,7 @@ module _ (xs : List ℕ) (r : Accepted) (sizes numbers : List ℕ) (a : Accepted
     shape-held =
         let t = told (shape xs) r m n sizes numbers a e in
         let g = good-done (λ S. (each nonempty S ≡ true) × (weight S ≤ 200)) (shape xs) (t .0) (t .1) (shape-sound xs) in
-        record { system = t .0; holds = t .4; trees = g .0; small = g .1 }
+        record { system = t .0; holds = t .4; each-nonempty = g .0; small = g .1 }
 
     pub shape-within : (m ≤ length sizes) × (n ≤ length numbers)
     shape-within =

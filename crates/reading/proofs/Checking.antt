@@ -18,7 +18,9 @@ use Rattle.patterns.specs.Component.{Component, points, flat, validComponent}
 use Rattle.patterns.specs.System.{System, weight, compareGenerated, inOrder, canonical}
 use Rattle.patterns.proofs.Trees.{size-positive, length-flat, flat-injective}
 use Rattle.patterns.proofs.Rotations.{valid-parts}
-use Rattle.reading.specs.Held.{Holds, HeldSystem, Neighbours}
+use Rattle.memory.specs.Memory.{Holds}
+use Rattle.reading.specs.Held.{Neighbours}
+use Rattle.memory.specs.Memory.{HeldSystem}
 use Rattle.components.specs.Held.{HeldPair}
 use Rattle.reading.proofs.Walking.{drop-one}
 

@@ -12,7 +12,7 @@ use Rattle.reading.specs.declared.Read.{Read}
 use Rattle.reading.specs.declared.Read.the-variants.{Past, Refused}
 use Rattle.reading.specs.declared.Accepted.{Accepted}
 use Rattle.reading.specs.declared.Accepted.the-variants.{System as Held, Refused as NotAccepted}
-use Rattle.reading.specs.Held.{Holds}
+use Rattle.memory.specs.Memory.{Holds}
 
 -- no number is left after the system
 abbrev pub ended : System → List ℕ → Result System

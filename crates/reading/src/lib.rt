@@ -16,7 +16,9 @@ ghost use Rattle.patterns.specs.Component.{Component, flat, validComponent};
 ghost use Rattle.patterns.specs.System.{System as Digraph, compareGenerated, canonical as canonicalSystem};
 ghost use Rattle.patterns.specs.Reading.{readTree, readBranches, readTrees, readComponents, readSystem, accepted};
 ghost use Rattle.written.specs.Putting.{placed};
-ghost use Rattle.reading.specs.Held.{Holds, HeldSystem, Neighbours};
+ghost use Rattle.memory.specs.Memory.{Holds};
+ghost use Rattle.reading.specs.Held.{Neighbours};
+ghost use Rattle.memory.specs.Memory.{HeldSystem};
 ghost use Rattle.reading.specs.Walking.{walked, walkedAll, readComponent};
 ghost use Rattle.reading.specs.Shape.{shape, Room, ReadInto, AcceptedInto, FirstNumbers};
 

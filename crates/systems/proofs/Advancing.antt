@@ -16,7 +16,7 @@ use Rattle.components.specs.Successor.{successor}
 use Rattle.components.proofs.Successor.{successor-valid}
 use Rattle.generation.specs.Step.{Node, Gave}
 use Rattle.systems.specs.Step.{fills}
-use Rattle.reading.specs.Held.{Holds}
+use Rattle.memory.specs.Memory.{Holds}
 use Rattle.systems.specs.Held.{sum, fillNumbers, HeldAhead, Advanced}
 use Rattle.systems.proofs.Filling.{flat-fills, fill-here}
 use Rattle.systems.proofs.Parts.{held-points, held-unique}

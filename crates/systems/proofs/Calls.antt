@@ -17,9 +17,10 @@ use Rattle.lists.proofs.Pigeon.{inside-length}
 use Rattle.patterns.specs.System.{System, weight, canonical, codes, compareSystem}
 use Rattle.patterns.specs.Written.{written}
 use Rattle.patterns.specs.Reading.{Result, done, fault, accepted}
-use Rattle.patterns.specs.Entry.{Answer, length-is, last, none-exists, refused, Outcome, answered, Replied, outcome, listed, firstOf, successorOf}
+use Rattle.patterns.specs.Replies.{Answer, length-is, last, lacking, refused}
+use Rattle.patterns.specs.Entry.{Outcome, answered, Replied, outcome, listed, firstOf, successorOf}
 use Rattle.patterns.proofs.Trees.{compareSystem-lawful}
-use Rattle.systems.specs.Calls.{State, fresh, wrote, stepOf, Call, entry, said-last, refusal, Calls, no-buffer, writes, ends, refuses, entries, ended, roomy, Once, Listing}
+use Rattle.patterns.specs.Calls.{State, fresh, wrote, stepOf, Call, entry, said-last, refusal, Calls, no-buffer, writes, says-last, refuses, entries, ended, roomy, Once, Map, codeOf, Isomorphic, Enumeration}
 use Rattle.systems.proofs.WrittenBack.{written-back, written-fits, written-equal}
 use Rattle.systems.proofs.Codes.{codes-sound, codes-complete, codes-different}
 
@@ -35,7 +36,7 @@ runOf (S ∷ r) (b ∷ bs) =
 abbrev NotNone : Answer → Type 0
 NotNone (length-is k) = Unit {0}
 NotNone last = Unit {0}
-NotNone none-exists = ⊥
+NotNone lacking = ⊥
 NotNone (refused c) = Unit {0}
 
 listed-not-none : (o : Option System) (before : List ℕ) → NotNone (answered (listed o) before)
@@ -54,7 +55,7 @@ step-not-none n (wrote b) before =
     outcome-not-none (accepted b) (λ S. listed (next compareSystem S (codes (weight S)))) before (λ S. listed-not-none (next compareSystem S (codes (weight S))) before)
 
 -- no call answers "none", so `Calls` has a case for every answer there is
-pub step-never-none : (n : ℕ) (s : State) (before after : List ℕ) → Replied (stepOf n s) before none-exists after → ⊥
+pub step-never-none : (n : ℕ) (s : State) (before after : List ℕ) → Replied (stepOf n s) before lacking after → ⊥
 step-never-none n s before after p = subst NotNone (sym (p .reply)) (step-not-none n s before)
 
 -- in state s the codes of r are still to come
@@ -138,7 +139,7 @@ calls-from {n} {s} h (writes {before = b} {rest = bs} {calls = calls} k after p 
     let l′ : Left n s (q .0 ∷ q .1) = rw (q .2) at l in
     let i = calls-from h more (q .1) (rw (q .4) (left-next h l′)) in
     rw (q .2, run-writes (q .0) (q .1) b bs (q .3)) (ap₂ (λ e c. entry e ∷ c) (q .4) i)
-calls-from h (ends after p) r l = rw (replied-last r (rw (l .step) at p))
+calls-from h (says-last after p) r l = rw (replied-last r (rw (l .step) at p))
 calls-from {n} {s} h (refuses {before = b} {rest = bs} c after p more) r l =
     let q = replied-refused r c (rw (l .step) at p) in
     let i = calls-from h more (q .0 ∷ q .1) (rw (q .2) at l) in
@@ -150,7 +151,7 @@ unfolding runOf
 calls-possible h [] r l = no-buffer
 calls-possible {n} {s} h (b ∷ bs) [] l =
     let p : Replied (stepOf n s) b last b = record { reply = rw (l .step); output = rw (l .step) } in
-    ends b p
+    says-last b p
 calls-possible {n} {s} h (b ∷ bs) (S ∷ r) l =
     by-test (leb (length (written S)) (length b))
     (λ t.
@@ -256,22 +257,22 @@ module _ {n : ℕ} (small : n ≤ 200) where
     pub calls-end : length (codes n) < roomy buffers → ended calls ≡ true
     calls-end h = rw the-run (run-ends (codes n) buffers (λ S m. let g = codes-fit S m in omega arith) h)
 
--- Demand 3: from what is known of maps and codes, any list of calls is a listing.
-module _ {n : ℕ} (small : n ≤ 200) {Map : Type 0} (codeOf : Map → List ℕ) (Renamed : Map → Map → Type 0)
-    (map-code : (f : Map) → (S : System) × (canonical S ≡ true) × (weight S ≡ n) × (codeOf f ≡ written S))
-    (code-map : (S : System) → canonical S ≡ true → weight S ≡ n → (f : Map) × (codeOf f ≡ written S))
-    (one-code : (f g : Map) → Renamed f g → codeOf f ≡ codeOf g)
-    (renamed : (f g : Map) → codeOf f ≡ codeOf g → Renamed f g)
+-- Demand 3: from what is known of maps and codes, any list of calls is an enumeration.
+module _ {n : ℕ} (small : n ≤ 200)
+    (map-code : (f : Map n) → (S : System) × (canonical S ≡ true) × (weight S ≡ n) × (codeOf f ≡ written S))
+    (code-map : (S : System) → canonical S ≡ true → weight S ≡ n → (f : Map n) × (codeOf f ≡ written S))
+    (one-code : (f g : Map n) → Isomorphic f g → codeOf f ≡ codeOf g)
+    (same-code : (f g : Map n) → codeOf f ≡ codeOf g → Isomorphic f g)
     {buffers : List (List ℕ)} {calls : List Call} (made : Calls n fresh buffers calls) where
   -- every written code is a map's, and every map's code is in the list
-  written-map : (b : List ℕ) → b ∈ map written (codes n) → (f : Map) × (codeOf f ≡ b)
+  written-map : (b : List ℕ) → b ∈ map written (codes n) → (f : Map n) × (codeOf f ≡ b)
   written-map b m =
       let r = of-map written (codes n) m in
       let k = codes-sound n (r .0) (r .1) in
       let f = code-map (r .0) (k .0) (k .1) in
       (f .0, f .1 ∙ sym (r .2))
 
-  map-written : (f : Map) → codeOf f ∈ map written (codes n)
+  map-written : (f : Map n) → codeOf f ∈ map written (codes n)
   map-written f =
       let k = map-code f in
       in-moved (sym (k .3)) (in-map written (in-list (ap codes (k .2)) (codes-complete (k .0) (k .1))))
@@ -279,8 +280,8 @@ module _ {n : ℕ} (small : n ≤ 200) {Map : Type 0} (codeOf : Map → List ℕ
   once-of : (b : List ℕ) (l : List (List ℕ)) → NoDup l → b ∈ l → Once b l
   once-of b l d m = let s = in-split m in record { before = s .0; after = s .1; cut = s .2; nowhere-else = nodup-middle (s .0) (s .1) (rw (s .2) at d) }
 
-  pub listing : Listing n Map codeOf Renamed buffers calls
-  listing =
+  pub enumeration : Enumeration n buffers calls
+  enumeration =
       let o = calls-in-order small made in
       let whole = o .2 in
       record {
@@ -289,7 +290,7 @@ module _ {n : ℕ} (small : n ≤ 200) {Map : Type 0} (codeOf : Map → List ℕ
         complete = λ e f. once-of (codeOf f) (entries calls) (calls-different small made)
             (in-list (o .1 ∙ ap (entries calls ++_) (whole e) ∙ append-nil (entries calls)) (map-written f));
         one-code = one-code;
-        renamed = renamed;
+        isomorphic = same-code;
         refusals = λ c b m. let r = calls-refusals small made c b m in (r .0, omega arith);
         enough = λ D h k.
             let i = inside-length {m = D} (written-different small) (λ b m. let f = written-map b m in in-moved (f .1) (h (f .0))) in

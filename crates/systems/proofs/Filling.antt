@@ -20,7 +20,7 @@ use Rattle.patterns.specs.System.{System, codes}
 use Rattle.patterns.proofs.Trees.{length-flat}
 use Rattle.components.proofs.Generation.{cycle-points}
 use Rattle.systems.specs.Step.{cycle, fill, fills}
-use Rattle.reading.specs.Held.{Holds}
+use Rattle.memory.specs.Memory.{Holds}
 use Rattle.systems.specs.Held.{sum, fillNumbers}
 use Rattle.systems.proofs.Firsts.{codes-first}
 

@@ -15,7 +15,7 @@ use Rattle.patterns.specs.System.{System, weight}
 use Rattle.components.specs.Successor.{successor}
 use Rattle.components.proofs.Successor.{successor-valid}
 use Rattle.systems.specs.Step.{fills, bump}
-use Rattle.reading.specs.Held.{Holds}
+use Rattle.memory.specs.Memory.{Holds}
 use Rattle.systems.specs.Held.{HeldAhead, Advanced, HeldCanonical, Bumped}
 use Rattle.systems.proofs.Canonical.{canonical-parts}
 use Rattle.systems.proofs.Scan.{bump-pass, bump-at}

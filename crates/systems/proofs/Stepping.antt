@@ -16,7 +16,7 @@ use Rattle.patterns.specs.Component.{points, flat}
 use Rattle.patterns.specs.System.{System, weight, canonical}
 use Rattle.systems.specs.declared.Stepped.the-variants.{Next, Last}
 use Rattle.systems.specs.Step.{nextSizes, cycle, bump, step}
-use Rattle.reading.specs.Held.{Holds}
+use Rattle.memory.specs.Memory.{Holds}
 use Rattle.systems.specs.Held.{sum, SizesIn, NextIn, HeldCanonical, Bumped, HeldStep, SteppedTo}
 use Rattle.systems.proofs.Sizes.{Upward, upward-nil, upward-cons}
 use Rattle.systems.proofs.Canonical.{canonical-upward}

@@ -14,7 +14,7 @@ use Rattle.patterns.proofs.Trees.{length-flat}
 use Rattle.components.proofs.Generation.{length-points}
 use Rattle.written.specs.Putting.{placed, Placed}
 use Rattle.written.proofs.Placing.{placed-length, placed-start, placed-then}
-use Rattle.reading.specs.Held.{Holds}
+use Rattle.memory.specs.Memory.{Holds}
 use Rattle.systems.specs.Held.{Wrote, HeldRoom, HeldWritable}
 use Rattle.systems.proofs.Numbers.{write-length, bytes-append, bytes-length}
 use Rattle.systems.proofs.Readback.{length-components}

@@ -11,7 +11,7 @@ use Rattle.patterns.specs.Component.{Component, points, flat, validComponent}
 use Rattle.patterns.specs.System.{System, canonical}
 use Rattle.systems.specs.declared.Stepped.{Stepped}
 use Rattle.systems.specs.declared.Stepped.the-variants.{Next, Last}
-use Rattle.reading.specs.Held.{Holds}
+use Rattle.memory.specs.Memory.{Holds}
 use Rattle.systems.specs.Step.{fills}
 
 abbrev pub sum : List ℕ → ℕ

@@ -18,7 +18,7 @@ ghost use Rattle.patterns.specs.Written.{bytes as bytesOf, componentNumbers, wr
 ghost use Rattle.components.specs.Successor.{successor as successorOf};
 ghost use Rattle.written.specs.Putting.{Placed};
 ghost use Rattle.systems.specs.Step.{nextSizes, bump as bumpOf, step};
-ghost use Rattle.reading.specs.Held.{Holds};
+ghost use Rattle.memory.specs.Memory.{Holds};
 ghost use Rattle.systems.specs.Held.{sum, SizesIn, NextIn, fillNumbers, HeldAhead, Advanced, HeldCanonical, Bumped, HeldStep, SteppedTo};
 ghost use Rattle.systems.specs.Held.{HeldRoom, HeldWritable, Wrote};
 

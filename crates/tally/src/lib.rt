@@ -1,6 +1,6 @@
 // The census of a map by value, for programs that have no list of structs of their own: the places of a list that was lent to the census entry, and its reply.
-use engine::Census;
-use engine::Row;
+use patterns::Census;
+use patterns::Row;
 ghost use Prim.Native.Nat.{_≤_};
 
 pub struct Tally {

@@ -11,7 +11,8 @@ use lib.Dec.{ltb}
 use borrow.Author.Tests.{lt-ltb, le-ltb, le-leb, lt-leb}
 use Rattle.lists.proofs.Tests.{by-test}
 use Rattle.patterns.specs.Written.{writeNumber}
-use Rattle.patterns.specs.Entry.{gives, Replied, length-is, refused}
+use Rattle.patterns.specs.Entry.{gives, Replied}
+use Rattle.patterns.specs.Replies.{length-is, refused}
 use Rattle.written.specs.Putting.{placed, Placed}
 
 module _ {A : Type 0} where

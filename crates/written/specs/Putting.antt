@@ -3,9 +3,6 @@ use mathlib.Core.Path.{_≡_}
 use mathlib.Core.List.{List, _++_}
 use Prim.Native.Nat.{ℕ, _+_}
 use lib.ListN.{length, take, drop}
-use Rattle.patterns.specs.Entry.{Answer, length-is, refused, numberOf}
-use Rattle.written.specs.declared.Reply.{Reply}
-use Rattle.written.specs.declared.Reply.the-variants.{Length, Refused}
 
 -- l stands in d from p on, and all else is as it was
 abbrev pub placed : {A : Type 0} → ℕ → List A → List A → List A
@@ -15,8 +12,3 @@ placed p l d = take p d ++ (l ++ drop (p + length l) d)
 pub record Placed (l : List ℕ) (at : ℕ) (before : List ℕ) (r : ℕ) (after : List ℕ) : Type 0 where
   pub end : r ≡ at + length l
   pub output : after ≡ placed at l before
-
--- the reply in document 01's words
-abbrev pub answerOf : Reply → Answer
-answerOf (Length n) = length-is n
-answerOf (Refused c) = refused (numberOf c)

@@ -1,6 +1,7 @@
 // The written code, bytes and numbers [document 01, "The written code"]: cutting bytes into numbers, writing numbers, and putting a result into
 // a lent buffer or refusing for want of room.
 use patterns::Refusal;
+use patterns::Reply;
 ghost use denote.Ref.{now};
 ghost use Prim.Native.Nat.{_<_, _≤_, _+_};
 ghost use mathlib.Core.Path.{_≡_};
@@ -8,17 +9,12 @@ ghost use lib.ListN.{length, drop};
 ghost use Rattle.patterns.specs.Written.{writeNumber};
 ghost use Rattle.patterns.specs.Entry.{Replied, Outcome.gives};
 ghost use Rattle.written.specs.Cutting.{headCut, CutInto};
-ghost use Rattle.written.specs.Putting.{answerOf, Placed};
+ghost use Rattle.patterns.specs.Replies.{answerOf};
+ghost use Rattle.written.specs.Putting.{Placed};
 
 // One number: its value and the place after it. A whole slice: how many numbers, and its length. Or the cause of a refusal.
 pub enum Cut {
     Number(usize, usize),
-    Refused(Refusal),
-}
-
-// The length of what was written, or the cause of a refusal.
-pub enum Reply {
-    Length(usize),
     Refused(Refusal),
 }
 

@@ -1,6 +1,6 @@
 use mathlib.Core.Path.{sym, ap, _∙_, subst}
 use denote.Ref.{now}
-use Rattle.c_interface.specs.Numbers.{signedOf}
+use Rattle.patterns.specs.SignedReplies.{signedOf}
 use Rattle.c_interface.proofs.Fitting.{Fits, read-back, accept-fits}
 use borrow.Author.Needs.{needs}
 use Rattle.c_interface.proofs.lethmuok_accept.Statement.{statement}

@@ -1,8 +1,8 @@
 use mathlib.Core.Path.{sym, ap, _∙_, subst}
 use lib.IntN.{ℤ}
-use Rattle.engine.specs.declared.reply.Census.{Census}
-use Rattle.engine.specs.Answers.{censusAnswer}
-use Rattle.c_interface.specs.Numbers.{signedOf, entriesOf}
+use Rattle.patterns.specs.declared.reply.Census.{Census}
+use Rattle.patterns.specs.Replies.{censusAnswer}
+use Rattle.patterns.specs.SignedReplies.{signedOf, entriesOf}
 use Rattle.c_interface.proofs.Fitting.{Fits}
 use Rattle.c_interface.proofs.Measures.{entries-fits, census-reported}
 use borrow.Author.Needs.{needs}

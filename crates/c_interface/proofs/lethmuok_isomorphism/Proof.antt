@@ -1,8 +1,8 @@
 use mathlib.Core.Path.{sym, ap, _∙_, subst}
 use lib.IntN.{ℤ}
-use Rattle.engine.specs.declared.reply.Isomorphism.{Isomorphism}
-use Rattle.engine.specs.Answers.{isomorphismAnswer}
-use Rattle.c_interface.specs.Numbers.{signedOf}
+use Rattle.patterns.specs.declared.reply.Isomorphism.{Isomorphism}
+use Rattle.patterns.specs.Replies.{isomorphismAnswer}
+use Rattle.patterns.specs.SignedReplies.{signedOf}
 use Rattle.c_interface.proofs.Fitting.{Fits, isomorphism-fits, isomorphism-reported}
 use borrow.Author.Needs.{needs}
 use Rattle.c_interface.proofs.lethmuok_isomorphism.Statement.{statement}

@@ -1,9 +1,9 @@
 use mathlib.Core.Path.{sym, ap, _∙_, subst}
 use denote.Ref.{now}
-use Rattle.patterns.specs.Entry.{Answer}
-use Rattle.engine.specs.declared.reply.Census.{Census}
-use Rattle.engine.specs.Answers.{censusAnswer}
-use Rattle.c_interface.specs.Numbers.{signedOf, longestIn}
+use Rattle.patterns.specs.Replies.{Answer}
+use Rattle.patterns.specs.declared.reply.Census.{Census}
+use Rattle.patterns.specs.Replies.{censusAnswer}
+use Rattle.patterns.specs.SignedReplies.{signedOf, longestIn}
 use Rattle.c_interface.proofs.Fitting.{Fits, read-back}
 use Rattle.c_interface.proofs.Measures.{longest-fits}
 use borrow.Author.Needs.{needs}

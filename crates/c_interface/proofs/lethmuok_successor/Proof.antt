@@ -1,8 +1,8 @@
 use mathlib.Core.Path.{sym, ap, _∙_, subst}
 use lib.IntN.{ℤ}
-use Rattle.engine.specs.declared.reply.Successor.{Successor}
-use Rattle.engine.specs.Answers.{successorAnswer}
-use Rattle.c_interface.specs.Numbers.{signedOf}
+use Rattle.patterns.specs.declared.reply.Successor.{Successor}
+use Rattle.patterns.specs.Replies.{successorAnswer}
+use Rattle.patterns.specs.SignedReplies.{signedOf}
 use Rattle.c_interface.proofs.Fitting.{Fits, replied-fits, reported}
 use borrow.Author.Needs.{needs}
 use Rattle.c_interface.proofs.lethmuok_successor.Statement.{statement}

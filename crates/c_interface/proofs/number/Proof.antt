@@ -2,9 +2,9 @@ use mathlib.Core.Path.{sym, ap, _∙_, subst}
 use lib.IntN.{ℤ}
 use mir.Syntax.{w64}
 use mir.Val.{SFits}
-use Rattle.written.specs.declared.Reply.{Reply}
-use Rattle.written.specs.Putting.{answerOf}
-use Rattle.c_interface.specs.Numbers.{signedOf}
+use Rattle.patterns.specs.declared.reply.Reply.{Reply}
+use Rattle.patterns.specs.Replies.{answerOf}
+use Rattle.patterns.specs.SignedReplies.{signedOf}
 use Rattle.c_interface.proofs.Fitting.{read-back}
 use borrow.Author.Needs.{needs}
 use Rattle.c_interface.proofs.number.Statement.{statement}

@@ -1,8 +1,8 @@
 use mathlib.Core.Path.{sym, ap}
 use lib.IntN.{ℤ}
 use Rattle.patterns.specs.declared.Refusal.{Refusal}
-use Rattle.patterns.specs.Entry.{refused, numberOf}
-use Rattle.c_interface.specs.Numbers.{signedOf}
+use Rattle.patterns.specs.Replies.{refused, numberOf}
+use Rattle.patterns.specs.SignedReplies.{signedOf}
 use borrow.Author.Needs.{needs}
 use Rattle.c_interface.proofs.refusal.Statement.{statement}
 use Rattle.c_interface.proofs.refusal.Tie as tie

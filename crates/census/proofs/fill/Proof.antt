@@ -49,13 +49,14 @@ use denote.Triple.Clauses.{ensured, lasts}
 use denote.Triple.Table.{entered, cited}
 use denote.Triple.Walked.{says, needs, Stays, stay-none, stay-slice, walkOf, goes-none, goes-slice, Walks, ends-at, walked, walk-meets}
 use Rattle.lists.proofs.Tests.{by-test}
-use Rattle.census.specs.declared.Row.{Row as Entry}
+use Rattle.patterns.specs.declared.reply.Row.{Row as Entry}
 use Rattle.census.specs.declared.Rows.{Rows}
-use Rattle.census.specs.Rows.{rowsOf}
-use Rattle.census.specs.Entries.{rowOf, rowIn}
+use Rattle.patterns.specs.Census.{rowsOf}
+use Rattle.patterns.specs.Replies.{rowOf}
+use Rattle.census.specs.Entries.{rowIn}
 use Rattle.census.proofs.Filling.{Filled, filled-start, filled-next}
-use Rattle.census.proofs.Row as T
-use Rattle.census.proofs.Row.Laws as T′
+use Rattle.patterns.proofs.reply.Row as T
+use Rattle.patterns.proofs.reply.Row.Laws as T′
 use Rattle.census.proofs.Rows as S
 use Rattle.census.proofs.Rows.Laws as S′
 use Rattle.census.proofs.row_at as row-at

@@ -38,7 +38,7 @@ use denote.Triple.Walked.{says, Stays, stay-none, stay-none-slice, walkOf, goes-
 use denote.Exit.{yes}
 use denote.Triple.Clauses.{ensured, lasts}
 use Rattle.patterns.specs.Entry.{componentOf}
-use Rattle.component_reader.specs.Stretch.{Shown}
+use Rattle.patterns.specs.Entry.{Shown}
 use Rattle.component_reader.specs.declared.ComponentReader.{ComponentReader}
 use Rattle.component_reader.proofs.ComponentReader as T
 use Rattle.component_reader.proofs.ComponentReader.Laws as T′

@@ -44,13 +44,14 @@ use denote.Triple.Walked.{says, Stays, stay-none, walkOf, goes-none, Walks, ends
 use denote.Exit.{yes}
 use denote.Triple.Clauses.{ensured, lasts}
 use Rattle.patterns.specs.Entry.{componentOf}
-use Rattle.component_reader.specs.Stretch.{partAnswer, partAnswered}
+use Rattle.patterns.specs.Replies.{partAnswer}
+use Rattle.patterns.specs.Entry.{partAnswered}
 use Rattle.component_reader.specs.declared.ComponentReader.{ComponentReader}
-use Rattle.component_reader.specs.declared.Stretch.{Stretch}
+use Rattle.patterns.specs.declared.reply.Stretch.{Stretch}
 use Rattle.component_reader.proofs.ComponentReader as T
 use Rattle.component_reader.proofs.ComponentReader.Laws as T′
-use Rattle.component_reader.proofs.Stretch as S
-use Rattle.component_reader.proofs.Stretch.Laws as S′
+use Rattle.patterns.proofs.Stretch as S
+use Rattle.patterns.proofs.Stretch.Laws as S′
 use Rattle.component_reader.proofs.stretch_of as found
 use Rattle.component_reader.proofs.stretch_of.Symbol as found-def
 use Rattle.component_reader.proofs.stretch_of.Symbol.{name as #stretch-of}

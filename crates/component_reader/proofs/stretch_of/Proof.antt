@@ -2,7 +2,7 @@ use denote.Ref.{now}
 use mathlib.Core.Path.{sym}
 use lib.Seq.{length-take-le}
 use Rattle.engine.proofs.Accepting.{code-taken, code-refused, taken-held, taken-count, taken-points}
-use Rattle.component_reader.specs.Stretch.{partAnswer}
+use Rattle.patterns.specs.Replies.{partAnswer}
 use Rattle.component_reader.proofs.Showing.{code-fault, code-holds}
 use borrow.Author.Needs.{needs}
 use Rattle.component_reader.proofs.stretch_of.Statement.{statement}

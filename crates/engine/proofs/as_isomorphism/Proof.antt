@@ -1,5 +1,5 @@
 use mathlib.Core.Path.{sym, ap}
-use Rattle.written.specs.Putting.{answerOf}
+use Rattle.patterns.specs.Replies.{answerOf}
 use borrow.Author.Needs.{needs}
 use Rattle.engine.proofs.as_isomorphism.Statement.{statement}
 use Rattle.engine.proofs.as_isomorphism.Tie as tie

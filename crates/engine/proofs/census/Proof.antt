@@ -39,9 +39,9 @@ use denote.Triple.Call.{calls-at}
 use denote.Triple.Clauses.{ensured, lasts}
 use denote.Triple.Table.{entered, cited}
 use denote.Triple.Walked.{says, Stays, stay-none-slice, gave-slice, walkOf, goes-none-slice, goes-gave-slice, Walks, ends-at, walked, walk-meets}
-use Rattle.census.specs.declared.Row.{Row as Entry}
-use Rattle.census.specs.Entries.{rowOf}
-use Rattle.census.proofs.Row as T
+use Rattle.patterns.specs.declared.reply.Row.{Row as Entry}
+use Rattle.patterns.specs.Replies.{rowOf}
+use Rattle.patterns.proofs.reply.Row as T
 use Rattle.census.proofs.Rows as S
 use Rattle.census.proofs.Rows.Laws as S′
 use Rattle.census.proofs.fill as fill
@@ -53,8 +53,8 @@ use Rattle.engine.specs.Decisions.{rowsFilled, Decided}
 use Rattle.engine.proofs.Decisions.{decision-written}
 use Rattle.engine.proofs.Decision as D
 use Rattle.engine.proofs.Decision.Laws as D′
-use Rattle.engine.proofs.reply.Census as R
-use Rattle.engine.proofs.reply.Census.Laws as R′
+use Rattle.patterns.proofs.reply.Census as R
+use Rattle.patterns.proofs.reply.Census.Laws as R′
 use Rattle.engine.proofs.decide as decide
 use Rattle.engine.proofs.decide.Symbol as decide-def
 use Rattle.engine.proofs.decide.Symbol.{name as #engine·decide}

@@ -5,7 +5,7 @@ use native.Mathlib.Omega.{arith}
 use borrow.Author.Needs.{needs}
 use lib.ListN.{length}
 use Rattle.patterns.specs.System.{System}
-use Rattle.reading.specs.Held.{Holds}
+use Rattle.memory.specs.Memory.{Holds}
 use Rattle.systems.proofs.Scanning.{Scanning, bump-start, bump-same, bump-end, bump-index, bump-size, bump-place, bump-ahead, bump-next, bump-found}
 use Rattle.systems.proofs.bump.Statement.{statement}
 use Rattle.systems.proofs.bump.Tie as tie

@@ -4,7 +4,7 @@ use native.Mathlib.Omega.{arith}
 use borrow.Author.Needs.{needs}
 use lib.ListN.{length}
 use Rattle.patterns.specs.System.{System}
-use Rattle.reading.specs.Held.{Holds}
+use Rattle.memory.specs.Memory.{Holds}
 use Rattle.systems.proofs.Writing.{Writing, system-start, system-same, system-to, system-room, system-next, system-end}
 use Rattle.systems.proofs.write_components.Statement.{statement}
 use Rattle.systems.proofs.write_components.Tie as tie

@@ -56,14 +56,14 @@ use denote.Triple.Walked.{needs, Stays, stay-none, stay-none-slice, walkOf, goes
 use borrow.Table.Elements.{at, cut-app, join-app}
 use borrow.Rule.Array.Share.{room-take}
 use Rattle.patterns.specs.Entry.{CensusReplied}
-use Rattle.census.specs.declared.Row.{Row as Entry}
-use Rattle.census.specs.Entries.{rowOf}
-use Rattle.census.proofs.Row as T
-use Rattle.census.proofs.Row.Laws as T′
-use Rattle.engine.specs.declared.reply.Census.{Census}
-use Rattle.engine.specs.Answers.{censusAnswer}
-use Rattle.engine.proofs.reply.Census as R
-use Rattle.engine.proofs.reply.Census.Laws as R′
+use Rattle.patterns.specs.declared.reply.Row.{Row as Entry}
+use Rattle.patterns.specs.Replies.{rowOf}
+use Rattle.patterns.proofs.reply.Row as T
+use Rattle.patterns.proofs.reply.Row.Laws as T′
+use Rattle.patterns.specs.declared.reply.Census.{Census}
+use Rattle.patterns.specs.Replies.{censusAnswer}
+use Rattle.patterns.proofs.reply.Census as R
+use Rattle.patterns.proofs.reply.Census.Laws as R′
 use Rattle.engine.proofs.census as census
 use Rattle.engine.proofs.census.Symbol as census-def
 use Rattle.engine.proofs.census.Symbol.{name as #engine·census}

@@ -5,15 +5,16 @@ use mathlib.Core.List.{List}
 use Prim.Native.Nat.{ℕ}
 use lib.IntN.{ℤ, pos, negℤ}
 use lib.ListN.{length}
 use Rattle.patterns.specs.Table.{image}
 use Rattle.patterns.specs.Census.{height, longestCycle}
-use Rattle.patterns.specs.Entry.{Answer, length-is, last, none-exists, refused, Outcome, answer, answered, filled, checkedTable, componentOf, IsomorphismReplied, CensusAnswer, census-is, census-refused}
-use Rattle.engine.specs.Rows.{RowsReplied}
+use Rattle.patterns.specs.Replies.{Answer, length-is, last, lacking, refused, CensusAnswer, census-is, census-refused}
+use Rattle.patterns.specs.Entry.{Outcome, answer, answered, filled, checkedTable, componentOf, IsomorphismReplied}
+use Rattle.patterns.specs.Entry.{RowsReplied}
 
 abbrev pub signedOf : Answer → ℤ
 signedOf (length-is n) = pos n
 signedOf last = negℤ (pos 100)
-signedOf none-exists = negℤ (pos 101)
+signedOf lacking = negℤ (pos 101)
 signedOf (refused c) = negℤ (pos c)
 
 -- an entry that found o replied with the number r and left the output so

@@ -8,9 +8,12 @@ use lib.Dec.{leb}
 use lib.ListN.{length, take}
 use Rattle.lists.specs.Select.{keep}
 use Rattle.lists.specs.Members.{_∈_, NoDup}
 use Rattle.patterns.specs.System.{codes}
 use Rattle.patterns.specs.Written.{written}
-use Rattle.patterns.specs.Entry.{length-is, last, refused, Outcome, Replied, firstOf, successorOf}
+use Rattle.patterns.specs.Table.{isTable}
+use Rattle.patterns.specs.Isomorphism.{Isomorphism}
+use Rattle.patterns.specs.Replies.{length-is, last, refused}
+use Rattle.patterns.specs.Entry.{Outcome, gives, ends, lacks, fails, Replied, firstOf, successorOf, codeOfMap}
 
 -- no code is written yet, or the bytes of the code written last
 pub data State : Type 0 where
@@ -35,7 +38,7 @@ pub data Calls (n : ℕ) : State → List (List ℕ) → List Call → Type 0 wh
   writes : {s : State} {before : List ℕ} {rest : List (List ℕ)} {calls : List Call} (k : ℕ) (after : List ℕ)
       → Replied (stepOf n s) before (length-is k) after
       → Calls n (wrote (take k after)) rest calls → Calls n s (before ∷ rest) (entry (take k after) ∷ calls)
-  ends : {s : State} {before : List ℕ} {rest : List (List ℕ)} (after : List ℕ)
+  says-last : {s : State} {before : List ℕ} {rest : List (List ℕ)} (after : List ℕ)
       → Replied (stepOf n s) before last after → Calls n s (before ∷ rest) (said-last ∷ [])
   refuses : {s : State} {before : List ℕ} {rest : List (List ℕ)} {calls : List Call} (c : ℕ) (after : List ℕ)
       → Replied (stepOf n s) before (refused c) after
@@ -66,22 +69,42 @@ pub record Once {A : Type 0} (x : A) (l : List A) : Type 0 where
   pub cut : l ≡ before ++ (x ∷ after)
   pub nowhere-else : x ∈ (before ++ after) → ⊥
 
--- Demand 3, as one claim about a whole list of calls. `Map` is the maps of n points, `codeOf f` the bytes that "code of a map" writes for f given
--- room, and `Renamed f g` says that there is a renaming from f to g.
-pub record Listing (n : ℕ) (Map : Type 0) (codeOf : Map → List ℕ) (Renamed : Map → Map → Type 0) (buffers : List (List ℕ)) (calls : List Call) : Type 0 where
+-- a map of n points: a table of n bytes, each a point
+pub record Map (n : ℕ) : Type 0 where
+  pub table : List ℕ
+  pub points : length table ≡ n
+  pub inside : isTable table ≡ true
+
+-- what an entry writes where the lent buffer has room for it
+abbrev pub result : Outcome ℕ → List ℕ
+result (gives l) = l
+result ends = []
+result lacks = []
+result (fails c) = []
+
+-- the bytes that the entry "code of a map" writes for a map, given room for them
+abbrev pub codeOf : {n : ℕ} → Map n → List ℕ
+codeOf f = result (codeOfMap (f .table))
+
+-- there is an isomorphism from f to g [document 01: renaming]
+abbrev pub Isomorphic : {n : ℕ} → Map n → Map n → Type 0
+Isomorphic {n} f g = (r : List ℕ) × Isomorphism n (f .table) (g .table) r
+
+-- Demand 3, as one claim about a whole list of calls.
+pub record Enumeration (n : ℕ) (buffers : List (List ℕ)) (calls : List Call) : Type 0 where
   -- every entry stands for a map
-  pub entry-map : (b : List ℕ) → b ∈ entries calls → (f : Map) × (codeOf f ≡ b)
+  pub entry-map : (b : List ℕ) → b ∈ entries calls → (f : Map n) × (codeOf f ≡ b)
   -- no two entries are equal
   pub different : NoDup (entries calls)
   -- where a call said "last", every map's code is an entry, exactly once
-  pub complete : ended calls ≡ true → (f : Map) → Once (codeOf f) (entries calls)
+  pub complete : ended calls ≡ true → (f : Map n) → Once (codeOf f) (entries calls)
   -- two maps have one code exactly if one is a renaming of the other
-  pub one-code : (f g : Map) → Renamed f g → codeOf f ≡ codeOf g
-  pub renamed : (f g : Map) → codeOf f ≡ codeOf g → Renamed f g
+  pub one-code : (f g : Map n) → Isomorphic f g → codeOf f ≡ codeOf g
+  pub isomorphic : (f g : Map n) → codeOf f ≡ codeOf g → Isomorphic f g
   -- a refused call had cause 8 and a buffer of fewer than 1,000 bytes
   pub refusals : (c : ℕ) (b : List ℕ) → refusal c b ∈ calls → (c ≡ 8) × (length b < 1000)
   -- if more buffers have at least 1,000 bytes than the maps have different codes, a call says "last"
-  pub enough : (D : List (List ℕ)) → ((f : Map) → codeOf f ∈ D) → length D < roomy buffers → ended calls ≡ true
+  pub enough : (D : List (List ℕ)) → ((f : Map n) → codeOf f ∈ D) → length D < roomy buffers → ended calls ≡ true
   -- the entries are the list of all codes of n points from its first on, and all of it where a call said "last"
   pub later : List (List ℕ)
   pub in-order : map written (codes n) ≡ entries calls ++ later

@@ -1,2 +1,0 @@
--- The replies of the entries as C callers see them.
-pub mod Numbers

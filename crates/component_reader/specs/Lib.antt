@@ -1,2 +1,0 @@
--- What the component reader answers and shows.
-pub mod Stretch

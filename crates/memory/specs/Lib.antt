@@ -1,0 +1,2 @@
+-- What lent slices hold.
+pub mod Memory

@@ -1,0 +1,74 @@
+-- The replies of the public entries in document 01's words: document 01, "Refusing". Each running reply is an enum of src/reply.rt; a definition gives every
+-- case of it this paper's number and values, and the promises use that definition.
+use Prim.Native.Nat.{ℕ}
+use lib.ListN.{getD}
+use Rattle.patterns.specs.Census.{Row}
+use Rattle.patterns.specs.declared.Refusal.{Refusal}
+use Rattle.patterns.specs.declared.Refusal.the-variants.{Count, Image, Truncated, NumberForm, Sizes, NotCanonical, Trailing, Room, Position}
+use Rattle.patterns.specs.declared.reply.Reply.{Reply}
+use Rattle.patterns.specs.declared.reply.Reply.the-variants.{Length, Refused}
+use Rattle.patterns.specs.declared.reply.Successor.{Successor}
+use Rattle.patterns.specs.declared.reply.Successor.the-variants.{Length as NextLength, Last, Refused as NoNext}
+use Rattle.patterns.specs.declared.reply.Isomorphism.{Isomorphism}
+use Rattle.patterns.specs.declared.reply.Isomorphism.the-variants.{Points, Lacking, Refused as NotCompared}
+use Rattle.patterns.specs.declared.reply.Census.{Census}
+use Rattle.patterns.specs.declared.reply.Census.the-variants.{Counted, Refused as NotCounted}
+use Rattle.patterns.specs.declared.reply.Row.{Row as RowStruct}
+use Rattle.patterns.specs.declared.reply.Stretch.{Stretch}
+use Rattle.patterns.specs.declared.reply.Stretch.the-variants.{Part, Refused as NoPart}
+
+-- the table of causes
+abbrev pub numberOf : Refusal → ℕ
+numberOf Count = 1
+numberOf Image = 2
+numberOf Truncated = 3
+numberOf NumberForm = 4
+numberOf Sizes = 5
+numberOf NotCanonical = 6
+numberOf Trailing = 7
+numberOf Room = 8
+numberOf Position = 9
+
+-- A reply in document 01's words: a length (or n, or a number of entries), "last", "none", or a refusal with its number.
+pub data Answer : Type 0 where
+  length-is : ℕ → Answer
+  last : Answer
+  lacking : Answer
+  refused : ℕ → Answer
+
+-- the number of entries, the greatest distance of a point from its cycle and the longest cycle, or a refusal with its number
+pub data CensusAnswer : Type 0 where
+  census-is : ℕ → ℕ → ℕ → CensusAnswer
+  census-refused : ℕ → CensusAnswer
+
+-- where the component's bytes begin and end in the code, or a refusal with its number
+pub data PartAnswer : Type 0 where
+  part-is : ℕ → ℕ → PartAnswer
+  part-refused : ℕ → PartAnswer
+
+-- what each case of a reply says
+abbrev pub answerOf : Reply → Answer
+answerOf (Length n) = length-is n
+answerOf (Refused c) = refused (numberOf c)
+
+abbrev pub successorAnswer : Successor → Answer
+successorAnswer (NextLength n) = length-is n
+successorAnswer Last = last
+successorAnswer (NoNext c) = refused (numberOf c)
+
+abbrev pub isomorphismAnswer : Isomorphism → Answer
+isomorphismAnswer (Points n) = length-is n
+isomorphismAnswer Lacking = lacking
+isomorphismAnswer (NotCompared c) = refused (numberOf c)
+
+abbrev pub censusAnswer : Census → CensusAnswer
+censusAnswer (Counted rows height longest) = census-is rows height longest
+censusAnswer (NotCounted c) = census-refused (numberOf c)
+
+abbrev pub partAnswer : Stretch → PartAnswer
+partAnswer (Part start end) = part-is start end
+partAnswer (NoPart c) = part-refused (numberOf c)
+
+-- what a struct of the lent list of rows says
+abbrev pub rowOf : RowStruct → Row
+rowOf e = record { cycleLength = e .«cycle_length»; cycles = e .cycles }

@@ -1,0 +1,40 @@
+// The replies of the public entries [document 01, "Refusing"]. What each case means in document 01's words is said in specs/Replies.antt.
+use crate::Refusal;
+
+// The length of what was written, or n, or a refusal with its cause.
+pub enum Reply {
+    Length(usize),
+    Refused(Refusal),
+}
+
+// The length of the code that was written, "last", or a refusal with its cause.
+pub enum Successor {
+    Length(usize),
+    Last,
+    Refused(Refusal),
+}
+
+// The number of points, "none", or a refusal with its cause.
+pub enum Isomorphism {
+    Points(usize),
+    Lacking,
+    Refused(Refusal),
+}
+
+// The number of rows, the greatest distance of a point from its cycle and the longest cycle, or a refusal with its cause.
+pub enum Census {
+    Counted(usize, usize, usize),
+    Refused(Refusal),
+}
+
+// A census row [document 01: census entry]: a cycle length, and the number of cycles of that length.
+pub struct Row {
+    pub cycle_length: u8,
+    pub cycles: u8,
+}
+
+// Where the bytes of a component begin and end in a code, or the cause of a refusal.
+pub enum Stretch {
+    Part(usize, usize),
+    Refused(Refusal),
+}
