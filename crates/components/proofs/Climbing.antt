@@ -16,8 +16,8 @@ use Rattle.patterns.specs.Generation.{hasParent, parent, candidates}
 use Rattle.patterns.proofs.Trees.{size-positive, length-below, length-code, length-flat}
 use Rattle.components.specs.Held.{leadingPoints, Climbed}
 use Rattle.components.specs.declared.Climb.the-variants.{Key}
-use Rattle.components.proofs.Lemma8.{lead-hasParent, parent-lead}
-use Rattle.components.proofs.Keys.{ordered-kept, key-left, key-right}
+use Rattle.component_theory.proofs.Lemma8.{lead-hasParent, parent-lead}
+use Rattle.component_theory.proofs.Keys.{ordered-kept, key-left, key-right}
 
 -- only points: no parent
 pub climbed-root : (s : List ℕ) (h : ℕ) (c : Component) → s ≡ flat c → h ≡ leadingPoints c → length s ≤ h → hasParent c ≡ false

@@ -20,13 +20,13 @@ use Rattle.patterns.specs.Component.{Component, points, flat, validComponent}
 use Rattle.patterns.specs.Generation.{hasParent, parent}
 use Rattle.patterns.specs.System.{compareGenerated}
 use Rattle.patterns.proofs.Trees.{length-flat, flat-injective}
-use Rattle.components.specs.Path.{key, path}
+use Rattle.component_theory.specs.Path.{key, path}
 use Rattle.components.specs.Held.{HeldKeys, HeldPair, Climbed, Traced}
 use Rattle.components.specs.declared.Climb.the-variants.{Key}
-use Rattle.components.proofs.Lemma8.{lead, parent-points, parent-length}
-use Rattle.components.proofs.Keys.{key-left, key-right}
-use Rattle.components.proofs.Generation.{length-points}
-use Rattle.components.proofs.Paths.{parent-path, path-length, generated-paths}
+use Rattle.component_theory.proofs.Lemma8.{lead, parent-points, parent-length}
+use Rattle.component_theory.proofs.Keys.{key-left, key-right}
+use Rattle.component_theory.proofs.Generation.{length-points}
+use Rattle.component_theory.proofs.Paths.{parent-path, path-length, generated-paths}
 
 -- Comparing.
 

@@ -15,7 +15,7 @@ use Rattle.patterns.specs.Tree.{validTree}
 use Rattle.patterns.specs.Component.{Component, points, flat, rotations, compareComponent, validComponent}
 use Rattle.patterns.proofs.Trees.{length-flat, flat-append, compareComponent-flat}
 use Rattle.patterns.proofs.Rotations.{valid-trees}
-use Rattle.components.proofs.Keys.{valid-if-least}
+use Rattle.component_theory.proofs.Keys.{valid-if-least}
 use Rattle.components.proofs.Walks.{no-trees}
 
 -- Numbers.

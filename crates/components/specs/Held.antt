@@ -7,7 +7,7 @@ use lib.ListN.{length, drop}
 use Rattle.patterns.specs.Tree.{Tree, point, merge, size, code}
 use Rattle.patterns.specs.Component.{Component, flat, validComponent}
 use Rattle.patterns.specs.Generation.{hasParent, parent}
-use Rattle.components.specs.Path.{key, path}
+use Rattle.component_theory.specs.Path.{key, path}
 use Rattle.components.specs.declared.Climb.{Climb}
 use Rattle.components.specs.declared.Climb.the-variants.{Root, Key}
 

@@ -13,7 +13,7 @@ use Rattle.lists.proofs.Permute.{Perm, perm-sym, perm-map, perm-each}
 use Rattle.lists.proofs.Sorting.{Sorted, sorted-nil, sorted-one, sorted-before, sort-map, sort-is, sort-member}
 use Rattle.patterns.specs.Component.{Component, points, validComponent}
 use Rattle.patterns.specs.System.{System, generationPlace, compareGenerated, inOrder, canonical}
-use Rattle.components.proofs.Paths.{generated-equal}
+use Rattle.component_theory.proofs.Paths.{generated-equal}
 use Rattle.lists.proofs.Gathering.{map-injective}
 
 -- the two numbers by which components are compared

@@ -12,8 +12,8 @@ use Rattle.lists.proofs.Permute.{total-map}
 use Rattle.patterns.specs.Component.{Component, points, flat, validComponent}
 use Rattle.patterns.specs.System.{System}
 use Rattle.patterns.proofs.Trees.{length-flat}
-use Rattle.components.specs.Successor.{successor}
-use Rattle.components.proofs.Successor.{successor-valid}
+use Rattle.component_theory.specs.Successor.{successor}
+use Rattle.component_theory.proofs.Successor.{successor-valid}
 use Rattle.generation.specs.Step.{Node, Gave}
 use Rattle.systems.specs.Step.{fills}
 use Rattle.memory.specs.Memory.{Holds}

@@ -18,7 +18,7 @@ use Rattle.patterns.specs.Generation.{generation}
 use Rattle.patterns.specs.System.{System, generationPlace, compareGenerated, inOrder, canonical, available, systems}
 use Rattle.patterns.proofs.Trees.{size-positive, compareComponent-lawful}
 use Rattle.patterns.proofs.Rotations.{valid-nonempty}
-use Rattle.components.proofs.Generation.{generation-sound, generation-complete, generation-once}
+use Rattle.component_theory.proofs.Generation.{generation-sound, generation-complete, generation-once}
 use Rattle.lists.proofs.Neighbours.{in-from, of-from}
 use Rattle.systems.proofs.Sizes.{Upward, upward-nil, upward-cons, upward-head, upward-tail}
 

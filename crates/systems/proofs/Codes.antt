@@ -15,7 +15,7 @@ use Rattle.lists.proofs.Rising.{Rising, rising-single, rising-nodup, rising-map
 use Rattle.patterns.specs.Component.{Component, points, compareComponent}
 use Rattle.patterns.specs.System.{System, weight, compareGenerated, canonical, available, systems, codes, sizeLists}
 use Rattle.lists.proofs.RisingPlaces.{rising-change}
-use Rattle.components.proofs.Paths.{generated-self, generated-rises}
+use Rattle.component_theory.proofs.Paths.{generated-self, generated-rises}
 use Rattle.lists.proofs.Neighbours.{rising-from}
 use Rattle.systems.proofs.Sizes.{upward-from, sum, sizes-sound, sizes-complete, sizes-rise}
 use Rattle.systems.proofs.Canonical.{generatedKey, compareGenerated-key, canonical-upward, systems-sound, systems-complete}

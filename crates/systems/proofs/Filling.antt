@@ -18,7 +18,7 @@ use Rattle.patterns.specs.Tree.{point}
 use Rattle.patterns.specs.Component.{Component, points, flat}
 use Rattle.patterns.specs.System.{System, codes}
 use Rattle.patterns.proofs.Trees.{length-flat}
-use Rattle.components.proofs.Generation.{cycle-points}
+use Rattle.component_theory.proofs.Generation.{cycle-points}
 use Rattle.systems.specs.Step.{cycle, fill, fills}
 use Rattle.memory.specs.Memory.{Holds}
 use Rattle.systems.specs.Held.{sum, fillNumbers}

@@ -17,7 +17,7 @@ use Rattle.patterns.specs.Component.{Component, points, validComponent}
 use Rattle.patterns.specs.System.{available, systems, codes, sizeLists}
 use Rattle.patterns.proofs.Trees.{compareComponent-lawful}
 use Rattle.systems.specs.Step.{leastSizes, cycle, fill, fills}
-use Rattle.components.proofs.Generation.{generation-complete, generation-first, cycle-points}
+use Rattle.component_theory.proofs.Generation.{generation-complete, generation-first, cycle-points}
 use Rattle.lists.proofs.Neighbours.{first-from}
 use Rattle.systems.proofs.Sizes.{Upward, upward-nil, upward-cons, upward-head, upward-tail, upward-from, sizes-sound, sizes-first, least-alone}
 use Rattle.systems.proofs.Canonical.{of-available}

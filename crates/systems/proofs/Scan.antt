@@ -5,7 +5,7 @@ use mathlib.Core.Option.{none, some, Option·map}
 use Prim.Native.Nat.{ℕ, suc, _+_}
 use Rattle.patterns.specs.Component.{Component, points}
 use Rattle.patterns.specs.System.{System}
-use Rattle.components.specs.Successor.{successor}
+use Rattle.component_theory.specs.Successor.{successor}
 use Rattle.systems.specs.Step.{leastSizes, nextSizes, cycle, fills, bump, step}
 
 -- no component has a successor, so far from the right

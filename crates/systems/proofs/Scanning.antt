@@ -12,8 +12,8 @@ use Rattle.lists.proofs.Tests.{each-head, each-tail}
 use Rattle.lists.proofs.Members.{gather-append}
 use Rattle.patterns.specs.Component.{Component, points, flat, validComponent}
 use Rattle.patterns.specs.System.{System, weight}
-use Rattle.components.specs.Successor.{successor}
-use Rattle.components.proofs.Successor.{successor-valid}
+use Rattle.component_theory.specs.Successor.{successor}
+use Rattle.component_theory.proofs.Successor.{successor-valid}
 use Rattle.systems.specs.Step.{fills, bump}
 use Rattle.memory.specs.Memory.{Holds}
 use Rattle.systems.specs.Held.{HeldAhead, Advanced, HeldCanonical, Bumped}

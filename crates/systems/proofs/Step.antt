@@ -18,10 +18,10 @@ use Rattle.patterns.specs.Component.{Component, points, compareComponent, valid
 use Rattle.patterns.specs.Generation.{generation}
 use Rattle.patterns.specs.System.{System, weight, compareGenerated, inOrder, canonical, available, systems, codes, compareSystem}
 use Rattle.patterns.proofs.Trees.{compareSystem-lawful}
-use Rattle.components.specs.Successor.{successor}
+use Rattle.component_theory.specs.Successor.{successor}
 use Rattle.systems.specs.Step.{cycle, fills, bump, step}
-use Rattle.components.proofs.Generation.{generation-once}
-use Rattle.components.proofs.Successor.{successor-within}
+use Rattle.component_theory.proofs.Generation.{generation-once}
+use Rattle.component_theory.proofs.Successor.{successor-within}
 use Rattle.lists.proofs.Neighbours.{neighbours-gap, last-greatest}
 use Rattle.systems.proofs.Sizes.{sum, sizes-sound, sizes-within}
 use Rattle.systems.proofs.Canonical.{points-positive, generated-points, inOrder-parts, inOrder-upward, canonical-upward, in-available}

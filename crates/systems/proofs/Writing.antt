@@ -11,7 +11,7 @@ use Rattle.patterns.specs.Component.{Component, points, flat}
 use Rattle.patterns.specs.System.{System, weight}
 use Rattle.patterns.specs.Written.{componentNumbers, numbers as numbersOf, writeNumber, bytes, written}
 use Rattle.patterns.proofs.Trees.{length-flat}
-use Rattle.components.proofs.Generation.{length-points}
+use Rattle.component_theory.proofs.Generation.{length-points}
 use Rattle.written.specs.Putting.{placed, Placed}
 use Rattle.written.proofs.Placing.{placed-length, placed-start, placed-then}
 use Rattle.memory.specs.Memory.{Holds}

@@ -9,7 +9,7 @@ use Rattle.lists.specs.Select.{otherwise}
 use Rattle.patterns.specs.Tree.{point}
 use Rattle.patterns.specs.Component.{Component, points}
 use Rattle.patterns.specs.System.{System}
-use Rattle.components.specs.Successor.{successor}
+use Rattle.component_theory.specs.Successor.{successor}
 
 -- the least nondecreasing list of numbers from v on with sum n, of at most k + 1 numbers: v while no less than v is left behind it, then what is left
 unfoldable pub leastSizes : ℕ → ℕ → ℕ → List ℕ

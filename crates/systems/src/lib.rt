@@ -15,7 +15,7 @@ ghost use Rattle.lists.specs.Select.{first, gather};
 ghost use Rattle.patterns.specs.System.{System, codes};
 ghost use Rattle.patterns.specs.Component.{Component, flat};
 ghost use Rattle.patterns.specs.Written.{bytes as bytesOf, componentNumbers, written};
-ghost use Rattle.components.specs.Successor.{successor as successorOf};
+ghost use Rattle.component_theory.specs.Successor.{successor as successorOf};
 ghost use Rattle.written.specs.Putting.{Placed};
 ghost use Rattle.systems.specs.Step.{nextSizes, bump as bumpOf, step};
 ghost use Rattle.memory.specs.Memory.{Holds};

@@ -4,7 +4,7 @@ use Prim.Native.Nat.{_-_, _+_}
 use native.Mathlib.Omega.{arith}
 use borrow.Author.Needs.{needs}
 use lib.ListN.{length, length-append}
-use Rattle.components.proofs.Generation.{length-points}
+use Rattle.component_theory.proofs.Generation.{length-points}
 use Rattle.components.proofs.Walks.{Along, along-start, along-next, along-step, along-end}
 use Rattle.components.proofs.count.Statement.{statement}
 use Rattle.components.proofs.count.Tie as tie

@@ -5,7 +5,7 @@ use borrow.Author.Needs.{needs}
 use lib.ListN.{length, length-set}
 use Rattle.patterns.proofs.Trees.{size-positive, length-flat}
 use Rattle.patterns.specs.Tree.{merge}
-use Rattle.components.proofs.Generation.{length-points}
+use Rattle.component_theory.proofs.Generation.{length-points}
 use Rattle.components.proofs.Climbing.{climbed-root, led-at, led-number, led-fits, led-stretch, led-second, led-order, climbed-left, climbed-right}
 use Rattle.components.proofs.unmerge.Statement.{statement}
 use Rattle.components.proofs.unmerge.Tie as tie

@@ -1,6 +1,6 @@
 use mathlib.Core.Path.{sym}
 use borrow.Author.Needs.{needs}
-use Rattle.components.proofs.ChildPlaces.{firstChild-place}
+use Rattle.component_theory.proofs.ChildPlaces.{firstChild-place}
 use Rattle.generation.proofs.Scanning.{gave-path}
 use Rattle.generation.proofs.first_child.Statement.{statement}
 use Rattle.generation.proofs.first_child.Tie as tie

@@ -11,7 +11,7 @@ use Rattle.lists.proofs.Members.{NoDup, lawful-decides, in-head, in-tail, in-li
 use Rattle.patterns.specs.Tree.{Tree, point, merge, compareTree}
 use Rattle.patterns.specs.Component.{Component, compareComponent, validComponent}
 use Rattle.patterns.specs.Generation.{hasParent, parent, leftMerges, rightMerges, candidates, isChild, children}
-use Rattle.components.proofs.Lemma8.{ordered, lead, parent-lead}
+use Rattle.component_theory.proofs.Lemma8.{ordered, lead, parent-lead}
 use Rattle.patterns.proofs.Trees.{compareComponent-lawful}
 
 -- Definition 10 for both ways of merging: m of two neighbours in their place

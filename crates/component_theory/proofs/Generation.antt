@@ -15,9 +15,9 @@ use Rattle.patterns.specs.Tree.{point, merge, validTree}
 use Rattle.patterns.specs.Component.{Component, points, compareComponent, turn, turns, validComponent}
 use Rattle.patterns.specs.Generation.{hasParent, parent, children, visit, generation}
 use Rattle.patterns.proofs.Trees.{size-positive, compareComponent-lawful}
-use Rattle.components.proofs.Lemma8.{parent-valid, parent-points, parent-length}
-use Rattle.components.proofs.Children.{child-candidate, children-parent, children-once}
-use Rattle.components.proofs.Traversal.{walk, Ranked, gather-same, walk-root, walk-all, walk-closed, walk-once}
+use Rattle.component_theory.proofs.Lemma8.{parent-valid, parent-points, parent-length}
+use Rattle.component_theory.proofs.Children.{child-candidate, children-parent, children-once}
+use Rattle.component_theory.proofs.Traversal.{walk, Ranked, gather-same, walk-root, walk-all, walk-closed, walk-once}
 
 -- a component has at most as many trees as points
 pub length-points : (c : Component) → length c ≤ points c

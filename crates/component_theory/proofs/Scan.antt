@@ -8,9 +8,9 @@ use Rattle.lists.proofs.Members.{lawful-decides}
 use Rattle.patterns.specs.Component.{Component, compareComponent, validComponent}
 use Rattle.patterns.specs.Generation.{hasParent, parent, candidates, isChild}
 use Rattle.patterns.proofs.Trees.{compareComponent-lawful}
-use Rattle.components.specs.Successor.{firstChild, nextSibling}
-use Rattle.components.proofs.Children.{child-candidate}
-use Rattle.components.specs.Path.{key}
+use Rattle.component_theory.specs.Successor.{firstChild, nextSibling}
+use Rattle.component_theory.proofs.Children.{child-candidate}
+use Rattle.component_theory.specs.Path.{key}
 use Rattle.lists.proofs.RisingPlaces.{once-keep-rises, keep-once, rising-next}
 
 first-once : (l : List Component) → first (once compareComponent l) ≡ first l

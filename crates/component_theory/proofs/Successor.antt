@@ -16,12 +16,12 @@ use Rattle.patterns.specs.Tree.{point}
 use Rattle.patterns.specs.Component.{Component, points, compareComponent, validComponent}
 use Rattle.patterns.specs.Generation.{hasParent, parent, children, generation}
 use Rattle.patterns.proofs.Trees.{compareComponent-lawful}
-use Rattle.components.specs.Successor.{evenDepth, firstChild, nextSibling, opening, afterEven, afterOdd, successor}
-use Rattle.components.proofs.Lemma8.{parent-valid, parent-points, parent-length}
-use Rattle.components.proofs.Children.{child-candidate}
-use Rattle.components.proofs.Traversal.{walk}
-use Rattle.components.proofs.Generation.{cycleOf, cycle-points, cycle-no-parent, components-ranked, length-points, valid-positive, generation-is-walk, generation-sound, generation-once, by-parents}
-use Rattle.components.proofs.Neighbours.{Block, whole-block, block-below-even, block-below-odd, block-first, block-last}
+use Rattle.component_theory.specs.Successor.{evenDepth, firstChild, nextSibling, opening, afterEven, afterOdd, successor}
+use Rattle.component_theory.proofs.Lemma8.{parent-valid, parent-points, parent-length}
+use Rattle.component_theory.proofs.Children.{child-candidate}
+use Rattle.component_theory.proofs.Traversal.{walk}
+use Rattle.component_theory.proofs.Generation.{cycleOf, cycle-points, cycle-no-parent, components-ranked, length-points, valid-positive, generation-is-walk, generation-sound, generation-once, by-parents}
+use Rattle.component_theory.proofs.Neighbours.{Block, whole-block, block-below-even, block-below-odd, block-first, block-last}
 
 component-decides : Decides compareComponent
 component-decides = lawful-decides compareComponent-lawful

@@ -17,12 +17,12 @@ use Rattle.patterns.specs.Component.{Component, points, compareComponent, valid
 use Rattle.patterns.specs.Generation.{hasParent, parent, candidates, isChild, children, generation}
 use Rattle.patterns.specs.System.{generationPlace, compareGenerated}
 use Rattle.patterns.proofs.Trees.{compareComponent-lawful}
-use Rattle.components.proofs.Lemma8.{parent-points, parent-length}
-use Rattle.components.proofs.Children.{children-parent}
-use Rattle.components.proofs.Generation.{cycleOf, cycle-points, length-points, generation-is-walk, generation-sound, generation-complete}
+use Rattle.component_theory.proofs.Lemma8.{parent-points, parent-length}
+use Rattle.component_theory.proofs.Children.{children-parent}
+use Rattle.component_theory.proofs.Generation.{cycleOf, cycle-points, length-points, generation-is-walk, generation-sound, generation-complete}
 use Rattle.lists.proofs.RisingPlaces.{once-keep-rises, rising-change, rising-places}
-use Rattle.components.specs.Path.{key, path-of, path}
-use Rattle.components.proofs.Alternating.{Keyed, compareAlternating, walk-rises}
+use Rattle.component_theory.specs.Path.{key, path-of, path}
+use Rattle.component_theory.proofs.Alternating.{Keyed, compareAlternating, walk-rises}
 
 component-decides : Decides compareComponent
 component-decides = lawful-decides compareComponent-lawful

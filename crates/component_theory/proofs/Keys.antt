@@ -17,9 +17,9 @@ use Rattle.patterns.specs.Component.{Component, compareComponent, nonempty, rot
 use Rattle.patterns.specs.Generation.{hasParent, parent, rightMerges, candidates, isChild}
 use Rattle.patterns.proofs.Trees.{compareTree-lawful, compareComponent-lawful, less-merge-right, size-positive, merge-parts}
 use Rattle.patterns.proofs.Rotations.{valid-parts}
-use Rattle.components.specs.Path.{key}
-use Rattle.components.proofs.Lemma8.{ordered, lead-hasParent, parent-lead, nonempty-append}
-use Rattle.components.proofs.Children.{mergesBy, merge-right, left-by, right-by, child-parts}
+use Rattle.component_theory.specs.Path.{key}
+use Rattle.component_theory.proofs.Lemma8.{ordered, lead-hasParent, parent-lead, nonempty-append}
+use Rattle.component_theory.proofs.Children.{mergesBy, merge-right, left-by, right-by, child-parts}
 
 -- a tree is none of the two it is merged of, and not a point
 pub merge-not-left {ℓ} : {P : Type ℓ} (t u : Tree) → merge t u ≡ t → P

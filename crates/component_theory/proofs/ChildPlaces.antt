@@ -21,12 +21,12 @@ use Rattle.patterns.specs.Tree.{Tree, point, merge, compareTree, lastAtMost}
 use Rattle.patterns.specs.Component.{Component, compareComponent, validComponent}
 use Rattle.patterns.specs.Generation.{hasParent, parent, leftMerges, rightMerges, candidates, isChild}
 use Rattle.patterns.proofs.Trees.{compareTree-lawful, compareComponent-lawful}
-use Rattle.components.specs.Successor.{firstChild, nextSibling}
+use Rattle.component_theory.specs.Successor.{firstChild, nextSibling}
 use Rattle.lists.proofs.Passing.{newAt, once-keep, once-next}
-use Rattle.components.proofs.Lemma8.{nonempty-append}
-use Rattle.components.proofs.Children.{mergesBy, merge-right, left-by, right-by, child-candidate, children-candidate}
-use Rattle.components.specs.Path.{key}
-use Rattle.components.proofs.Keys.{isLeast, length-merges, left-place, right-place, left-child, right-child, point-not-merge, and-right, left-candidate-place, right-candidate-place}
+use Rattle.component_theory.proofs.Lemma8.{nonempty-append}
+use Rattle.component_theory.proofs.Children.{mergesBy, merge-right, left-by, right-by, child-candidate, children-candidate}
+use Rattle.component_theory.specs.Path.{key}
+use Rattle.component_theory.proofs.Keys.{isLeast, length-merges, left-place, right-place, left-child, right-child, point-not-merge, and-right, left-candidate-place, right-candidate-place}
 
 -- the child at place k of the candidates of c, if there is one that has not stood before
 unfoldable pub childAt : Component → ℕ → List Component

@@ -13,7 +13,7 @@ use Rattle.lists.proofs.Comparison.{atMost-turned}
 use Rattle.patterns.specs.Tree.{Tree, point, merge, compareTree, validTree}
 use Rattle.patterns.specs.Component.{Component, points, compareComponent, nonempty, validComponent}
 use Rattle.patterns.specs.Generation.{hasParent, parent}
-use Rattle.components.proofs.Unmerging.{Least, unmerged-least}
+use Rattle.component_theory.proofs.Unmerging.{Least, unmerged-least}
 use Rattle.patterns.proofs.Trees.{compareTree-lawful, point-least, less-merge-left, less-merge-right, valid-merge}
 use Rattle.patterns.proofs.Rotations.{valid-parts, valid-from}
 

@@ -1,0 +1,3 @@
+-- What the theory of components adds to the definitions of mapping patterns.
+pub mod Path
+pub mod Successor
