@@ -18,8 +18,8 @@ use Rattle.patterns.specs.Census.{greatest, Row, stepsToCycle, height, longestC
 use Rattle.patterns.specs.Reading.{Result, done}
 use Rattle.patterns.specs.Replies.{length-is, CensusAnswer}
 use Rattle.patterns.specs.Entry.{checkedTable, answer, Counted, table-refused, counted, censusAnswered}
-use Rattle.maps.proofs.Isomorphisms.{table-below}
-use Rattle.maps.proofs.CensusTheory.{lengths-add-up, cycle-points-bound, census-fits}
+use Rattle.map_theory.proofs.Isomorphisms.{table-below}
+use Rattle.map_theory.proofs.CensusTheory.{lengths-add-up, cycle-points-bound, census-fits}
 use Rattle.patterns.specs.Census.{rowsOf}
 use Rattle.patterns.specs.Entry.{RowsReplied}
 use Rattle.engine.proofs.Tables.{checked-table}

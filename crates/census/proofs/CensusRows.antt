@@ -16,9 +16,9 @@ use Rattle.lists.proofs.Places.{times-nodup, times-out}
 use Rattle.patterns.specs.Table.{image}
 use Rattle.patterns.specs.Census.{greatest, Row, cycleLengths, cyclesOf, height, longestCycle, Census}
 use Rattle.lists.proofs.Gathering.{map-same}
-use Rattle.maps.proofs.Orbits.{orbit-length}
-use Rattle.maps.proofs.Leaders.{cycle-period, leader-onCycle}
-use Rattle.maps.proofs.CensusTheory.{greatest-bound, greatest-in, of-cycleLengths, cycleLengths-positive, occurs, occurs-not, census-fits}
+use Rattle.map_theory.proofs.Orbits.{orbit-length}
+use Rattle.map_theory.proofs.Leaders.{cycle-period, leader-onCycle}
+use Rattle.map_theory.proofs.CensusTheory.{greatest-bound, greatest-in, of-cycleLengths, cycleLengths-positive, occurs, occurs-not, census-fits}
 use Rattle.census.specs.Counts.{Counts}
 use Rattle.census.specs.declared.Rows.{Rows}
 use Rattle.census.specs.Rows.{counted, rowsIn, Room, Listed, CensusOf}

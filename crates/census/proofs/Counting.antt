@@ -16,9 +16,9 @@ use Rattle.lists.proofs.Permute.{total-one, total-mono, total-same, total-keep,
 use Rattle.lists.proofs.Places.{range-last, range-length, times-append}
 use Rattle.patterns.specs.Table.{cycleFrom, leadsCycle, leaders}
 use Rattle.patterns.specs.Census.{cycleLengths, cyclesOf}
-use Rattle.maps.proofs.Orbits.{orbit-length}
-use Rattle.maps.proofs.Leaders.{cycle-period, leads-onCycle}
-use Rattle.maps.specs.Marks.{lengthLed}
+use Rattle.map_theory.proofs.Orbits.{orbit-length}
+use Rattle.map_theory.proofs.Leaders.{cycle-period, leads-onCycle}
+use Rattle.cycles.specs.Marks.{lengthLed}
 
 -- a number stands at most as often as the list is long
 times-length : (l : ℕ) (m : List ℕ) → times l m ≤ length m

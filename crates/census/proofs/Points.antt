@@ -5,7 +5,7 @@ use Prim.Native.Nat.{ℕ, _+_, _-_, _≤_}
 use native.Mathlib.Omega.{arith}
 use lib.ListN.{length, take, replicate, length-replicate, replicate-append-replicate}
 use lib.Seq.{take-at}
-use Rattle.maps.specs.Marks.{Marked}
+use Rattle.cycles.specs.Marks.{Marked}
 
 -- marks written into the first places of an array
 pub marks-back : {f marks : List ℕ} → Marked f marks → (d : List ℕ) → take (length f) (marks ++ d) ≡ marks

@@ -5,7 +5,7 @@ use Prim.Native.Nat.{ℕ, _+_, _<_}
 use native.Mathlib.Omega.{arith}
 use Rattle.patterns.specs.Table.{onCycle}
 use Rattle.patterns.specs.Census.{stepsToCycle}
-use Rattle.maps.proofs.Distances.{steps-on, distance-bound, distance-next}
+use Rattle.map_theory.proofs.Distances.{steps-on, distance-bound, distance-next}
 
 -- the distance of x is k more than that of y
 pub record Stepping (n : ℕ) (f : ℕ → ℕ) (x k y : ℕ) : Type 0 where

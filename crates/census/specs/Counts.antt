@@ -6,7 +6,7 @@ use Prim.Native.Nat.{ℕ, _≤_, _<_, _+_}
 use lib.ListN.{length, getD, replicate}
 use Rattle.patterns.specs.Table.{image, isTable}
 use Rattle.patterns.specs.Census.{cyclesOf}
-use Rattle.maps.specs.Marks.{Marked}
+use Rattle.cycles.specs.Marks.{Marked}
 
 -- a table f of at most 200 points with its marks, and a 0 for every number from 0 to the number of points
 pub record Blank (f marks counts : List ℕ) : Type 0 where

@@ -9,7 +9,7 @@ ghost use Prim.Native.Nat.{_<_, _≤_};
 ghost use lib.ListN.{length, take, drop, replicate};
 ghost use Rattle.patterns.specs.Table.{image, isTable};
 ghost use Rattle.patterns.specs.Census.{stepsToCycle, height as heightOf, greatest as greatestOf};
-ghost use Rattle.maps.specs.Marks.{Marked, MarkedPoint};
+ghost use Rattle.cycles.specs.Marks.{Marked, MarkedPoint};
 ghost use Rattle.census.specs.Counts.{Blank, Counts};
 ghost use Rattle.census.specs.Rows.{Room, Listed, CensusOf};
 ghost use Rattle.patterns.specs.Census.{rowsOf};
@@ -32,7 +32,7 @@ fn count_cycles(f: &[u8], marks: &[u8], counts: &mut [u8])
 {
     let mut x = 0;
     while x < f.len() {
-        let l = maps::length_led(f, marks, x);
+        let l = cycles::length_led(f, marks, x);
         counts[l] += 1;
         x += 1;
     }
@@ -145,7 +145,7 @@ pub fn census(f: &[u8]) -> Rows
     let n = f.len();
     let mut marks = no_points();
     let mut table = no_points();
-    maps::mark_cycles(f, &mut marks[..n]);
+    cycles::mark_cycles(f, &mut marks[..n]);
     take_census(f, &marks[..n], &mut table[..n + 1])
 }
 

@@ -81,7 +81,7 @@ fn run_listing(n: u8) -> bool {
     let mut code = output_room();
     let mut next = output_room();
     let mut out = io::large_buffer();
-    lists::is_listing(
+    comparisons::is_listing(
         numbers::wide(n),
         &file[0..size],
         &mut code,
@@ -109,7 +109,7 @@ fn run_listings() -> Score {
 }
 
 fn run_lists() {
-    let found = lists::totals();
+    let found = comparisons::totals();
     report(
         b"totals",
         Score {

@@ -19,11 +19,11 @@ use Rattle.memory.specs.Memory.{Holds}
 use Rattle.memory.specs.Memory.{HeldSystem}
 use Rattle.systems.specs.Held.{Wrote}
 use Rattle.systems.proofs.Parts.{length-numbers, held-points}
-use Rattle.maps.specs.Images.{HeldMap}
-use Rattle.maps.specs.Marks.{MarksAsked, Marked}
-use Rattle.maps.specs.Systems.{SystemAsked, SystemWritten}
-use Rattle.maps.proofs.MapOf.{length-mapOf}
-use Rattle.maps.proofs.Theorems.{table-canonical, table-weight}
+use Rattle.mapping.specs.Images.{HeldMap}
+use Rattle.cycles.specs.Marks.{MarksAsked, Marked}
+use Rattle.coding.specs.Systems.{SystemAsked, SystemWritten}
+use Rattle.map_theory.proofs.MapOf.{length-mapOf}
+use Rattle.map_theory.proofs.Theorems.{table-canonical, table-weight}
 use Rattle.engine.specs.Tables.{Table, CodeAsked, CodeWritten}
 use Rattle.engine.proofs.Accepting.{Taken}
 use Rattle.engine.proofs.Writing.{canonical-held}

@@ -27,10 +27,10 @@ use Rattle.patterns.specs.Reading.{done, fault}
 use Rattle.patterns.specs.Replies.{Answer, lacking, refused, numberOf}
 use Rattle.patterns.specs.Entry.{gives, lacks, fails, checkedTable, IsomorphismReplied, first-refused, second-refused, found, lengths-differ, not-found}
 use Rattle.systems.proofs.WrittenBack.{written-equal}
-use Rattle.maps.proofs.MapOf.{length-mapOf, mapOf-table}
+use Rattle.map_theory.proofs.MapOf.{length-mapOf, mapOf-table}
 use Rattle.lists.proofs.Gathering.{perm-nodup}
-use Rattle.maps.proofs.Isomorphisms.{table-below, isomorphism-perm, isomorphism-below, isomorphism-through}
-use Rattle.maps.proofs.Theorems.{table-canonical, table-weight, renaming-system}
+use Rattle.map_theory.proofs.Isomorphisms.{table-below, isomorphism-perm, isomorphism-below, isomorphism-through}
+use Rattle.map_theory.proofs.Theorems.{table-canonical, table-weight, renaming-system}
 use Rattle.engine.specs.Tables.{Table, CodeAsked, CodeWritten, Matched, SendsPut, SameLength}
 use Rattle.engine.proofs.Coding.{code-asked}
 

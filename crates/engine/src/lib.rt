@@ -5,8 +5,8 @@ use census::census as census_of;
 use census::fill;
 use lists::Order;
 use lists::compare;
-use maps::map_of;
-use maps::mark_cycles;
+use mapping::map_of;
+use cycles::mark_cycles;
 pub use patterns::Census;
 pub use patterns::Isomorphism;
 use patterns::Refusal;
@@ -184,7 +184,7 @@ fn write_code(table: &[u8], points: &mut [u8], code: &mut [u8]) -> usize
     let mut sizes = points_room();
     let mut numbers = points_room();
     mark_cycles(table, &mut marks[..n]);
-    let m = maps::write_system(
+    let m = coding::system_of(
         table,
         &marks[..n],
         &mut sizes[..n],

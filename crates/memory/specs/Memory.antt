@@ -2,8 +2,9 @@
 -- system is two slices: `sizes`, the points of each component, and `trees`, the components one after another.
 use mathlib.Core.Path.{_≡_}
 use mathlib.Core.Bool.{true}
-use mathlib.Core.List.{List, map}
+use mathlib.Core.List.{List, _++_, map}
 use Prim.Native.Nat.{ℕ, _≤_}
+use lib.ListN.{length}
 use Rattle.lists.specs.Select.{each, gather}
 use Rattle.patterns.specs.Tree.{Tree, code}
 use Rattle.patterns.specs.Component.{Component, points, flat, nonempty}
@@ -30,3 +31,10 @@ pub record HeldSystem (sizes trees : List ℕ) : Type 0 where
   pub holds : Holds system sizes trees
   pub each-nonempty : each nonempty system ≡ true
   pub small : weight system ≤ 200
+
+-- the bytes l stand in d from place p on
+pub record Stands (l : List ℕ) (p : ℕ) (d : List ℕ) : Type 0 where
+  pub front : List ℕ
+  pub rest : List ℕ
+  pub is : d ≡ front ++ (l ++ rest)
+  pub place : length front ≡ p

@@ -5,7 +5,7 @@ use borrow.Author.Needs.{needs}
 use lib.ListN.{length}
 use Rattle.patterns.specs.Table.{image}
 use Rattle.patterns.specs.Census.{stepsToCycle}
-use Rattle.maps.proofs.Marks.{inside, marks-off, marks-on}
+use Rattle.cycles.proofs.Marks.{inside, marks-off, marks-on}
 use Rattle.census.proofs.Stepping.{Stepping, stepping-start, stepping-bound, stepping-falls, stepping-next, stepping-end}
 use Rattle.census.proofs.steps_to_cycle.Statement.{statement}
 use Rattle.census.proofs.steps_to_cycle.Tie as tie

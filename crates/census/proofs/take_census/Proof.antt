@@ -1,7 +1,7 @@
 use denote.Ref.{now}
 use mathlib.Core.Path.{sym}
 use lib.Seq.{length-take-le}
-use Rattle.maps.proofs.Marks.{inside}
+use Rattle.cycles.proofs.Marks.{inside}
 use Rattle.census.proofs.CensusRows.{listed-within, counted-room, census-listed}
 use borrow.Author.Needs.{needs}
 use Rattle.census.proofs.take_census.Statement.{statement}

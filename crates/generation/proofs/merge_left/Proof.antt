@@ -4,7 +4,7 @@ use Prim.Native.Nat.{_+_}
 use native.Mathlib.Omega.{arith}
 use borrow.Author.Needs.{needs}
 use lib.ListN.{getD, set}
-use Rattle.components.proofs.Climbing.{copied}
+use Rattle.lists.proofs.Filled.{copied}
 use Rattle.generation.proofs.Merging.{reach, merged-left}
 use Rattle.generation.proofs.merge_left.Statement.{statement}
 use Rattle.generation.proofs.merge_left.Tie as tie

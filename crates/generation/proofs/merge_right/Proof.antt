@@ -5,7 +5,7 @@ use native.Mathlib.Omega.{arith}
 use borrow.Author.Needs.{needs}
 use lib.ListN.{getD, set, length-set}
 use Rattle.lists.specs.Blocks.{exchanged}
-use Rattle.components.proofs.Climbing.{copied}
+use Rattle.lists.proofs.Filled.{copied}
 use Rattle.generation.proofs.Merging.{reach, merged-right}
 use Rattle.generation.proofs.merge_right.Statement.{statement}
 use Rattle.generation.proofs.merge_right.Tie as tie

@@ -1,0 +1,149 @@
+// Putting trees and components in their places: sorted in among others, and turned to their least rotation, the labels with them.
+use components::at_most;
+use components::compare_generated;
+use components::least_rotation;
+use lists::Order;
+use lists::compare;
+use lists::exchange;
+ghost use denote.Ref.{now};
+ghost use mathlib.Core.Path.{_≡_};
+ghost use mathlib.Core.Bool.{true};
+ghost use mathlib.Core.List.{_++_, map};
+ghost use Prim.Native.Nat.{_+_, _≤_, _<_, compare as compareNumbers};
+ghost use lib.ListN.{length, take, drop};
+ghost use Rattle.lists.specs.Order.{lex, atMost};
+ghost use Rattle.lists.specs.Select.{gather};
+ghost use Rattle.patterns.specs.Tree.{Tree, code};
+ghost use Rattle.patterns.specs.Component.{Component, flat, points as pointsOf};
+ghost use Rattle.patterns.specs.System.{System, compareGenerated};
+ghost use Rattle.memory.specs.Memory.{Held};
+ghost use Rattle.arrangement.specs.Arrangement.{pointsBefore, RowStands, Inserts, LeastStart};
+ghost use Rattle.arrangement.specs.Arrangement.{BothValid, PlaceAsked, PlaceFound, InsertAsked, ComponentInserted};
+
+// How many points the trees of `row` have that stand before the first one that `tree` does not exceed.
+fn points_before(tree: &[u8], row: &[u8]) -> usize
+    requires { ⌜ Held (now row) ⌝ }
+    ensures { λ r. ⌜ (r ≤ length (now (row .entry)))
+        × ((t : Tree) (c : Component) → now (tree .entry) ≡ code t → now (row .entry) ≡ flat c → r ≡ pointsBefore t c) ⌝ }
+{
+    let mut p = 0;
+    while p < row.len() {
+        let q = p + row[p] as usize;
+        if at_most(tree, &row[p..q]) {
+            return p;
+        }
+        p = q;
+    }
+    p
+}
+
+// The tree from `end` to `next` goes to its place among the sorted trees from `start` to `end`, its points with it.
+pub fn insert_tree(numbers: &mut [u8], points: &mut [u8], start: usize, end: usize, next: usize)
+    requires { ⌜ RowStands (now numbers) (now points) start end next ⌝ }
+    ensures { λ r. ⌜ Inserts start end next (now (numbers .entry)) (now (points .entry)) (now (numbers .exit)) (now (points .exit)) ⌝ }
+{
+    let p = start + points_before(&numbers[end..next], &numbers[start..end]);
+    exchange(numbers, p, end, next);
+    exchange(points, p, end, next);
+}
+
+// `s` turned to begin at `a` is not greater than `s` turned to begin at `b`.
+fn at_most_between(s: &[u8], a: usize, b: usize) -> bool
+    requires { ⌜ (a ≤ b) × (b ≤ length (now s)) ⌝ }
+    ensures { λ r. ⌜ r ≡ atMost (lex compareNumbers) (drop a (now (s .entry)) ++ take a (now (s .entry))) (drop b (now (s .entry)) ++ take b (now (s .entry))) ⌝ }
+{
+    let n = s.len();
+    let d = b - a;
+    let e = n - d;
+    match compare(&s[a..e], &s[b..n]) {
+        Order::Less => true,
+        Order::Greater => false,
+        Order::Equal => match compare(&s[e..n], &s[..d]) {
+            Order::Less => true,
+            Order::Greater => false,
+            Order::Equal => at_most(&s[..a], &s[d..b]),
+        },
+    }
+}
+
+// Where the least rotation of the component begins. One pass where the component is least already.
+pub fn least_start(s: &[u8]) -> usize
+    requires { ⌜ Held (now s) ⌝ }
+    ensures { λ r. ⌜ ((c : Component) → now (s .entry) ≡ flat c → LeastStart c r) ⌝ }
+{
+    if least_rotation(s) {
+        return 0;
+    }
+    let mut best = 0;
+    let mut p = 0;
+    while p < s.len() {
+        if !at_most_between(s, best, p) {
+            best = p;
+        }
+        p += s[p] as usize;
+    }
+    best
+}
+
+// `c` does not come after `d`: by number of points, and among equal numbers by generation order.
+fn not_after(c: &[u8], d: &[u8]) -> bool
+    requires { ⌜ BothValid (now c) (now d) ⌝ }
+    ensures { λ r. ⌜ ((x y : Component) → now (c .entry) ≡ flat x → now (d .entry) ≡ flat y → r ≡ atMost compareGenerated x y) ⌝ }
+{
+    if c.len() < d.len() {
+        return true;
+    }
+    if d.len() < c.len() {
+        return false;
+    }
+    match compare_generated(c, d) {
+        Order::Less => true,
+        Order::Equal => true,
+        Order::Greater => false,
+    }
+}
+
+// A place among components: how many stand before it, and how many points they have.
+pub struct Place {
+    pub index: usize,
+    pub at: usize,
+}
+
+// The place before the first component of `row` that `c` does not come after.
+fn component_place(c: &[u8], sizes: &[u8], row: &[u8]) -> Place
+    requires { ⌜ PlaceAsked (now c) (now sizes) (now row) ⌝ }
+    ensures { λ r. ⌜ ((x : Component) (S : System) → now (c .entry) ≡ flat x → now (sizes .entry) ≡ map pointsOf S → now (row .entry) ≡ gather flat S
+        → PlaceFound x S r) ⌝ }
+{
+    let mut index = 0;
+    let mut at = 0;
+    while index < sizes.len() {
+        let next = at + sizes[index] as usize;
+        if not_after(c, &row[at..next]) {
+            return Place { index, at };
+        }
+        at = next;
+        index += 1;
+    }
+    Place { index, at }
+}
+
+// The component from `end` to `next` goes to its place among the `m` components before it, its size and its points with it.
+pub fn insert_component(
+    sizes: &mut [u8],
+    m: usize,
+    numbers: &mut [u8],
+    points: &mut [u8],
+    end: usize,
+    next: usize,
+)
+    requires { ⌜ InsertAsked (now sizes) m (now numbers) (now points) end next ⌝ }
+    ensures { λ r. ⌜ ComponentInserted m end next (now (sizes .entry)) (now (numbers .entry)) (now (points .entry))
+        (now (sizes .exit)) (now (numbers .exit)) (now (points .exit)) ⌝ }
+{
+    let place = component_place(&numbers[end..next], &sizes[..m], &numbers[0..end]);
+    sizes[m] = (next - end) as u8;
+    exchange(sizes, place.index, m, m + 1);
+    exchange(numbers, place.at, end, next);
+    exchange(points, place.at, end, next);
+}

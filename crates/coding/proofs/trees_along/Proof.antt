@@ -1,0 +1,105 @@
+use denote.Ref.{now}
+use mathlib.Core.List.{List, [], _∷_}
+use Rattle.map_theory.specs.Plants.{plantAt}
+use Rattle.arrangement.specs.Arrangement.{Planted}
+use Rattle.coding.specs.Writing.{CycleAsked}
+use mathlib.Core.Path.{sym, _∙_}
+use Prim.Native.Nat.{_-_, ℕ}
+use lib.ListN.{length}
+use Rattle.coding.proofs.Circling.{Circling, circling-first, circling-start, circling-bound, circling-numbers, circling-labels, circling-end, circling-asked, circling-less, circling-next}
+use native.Mathlib.Omega.{arith}
+use Rattle.coding.proofs.trees_along.Statement.{statement}
+use Rattle.coding.proofs.trees_along.Tie as tie
+
+abbrev Inv-loop : tie.InvT-loop
+Inv-loop f last before x numbers₀ points₀ at n end₀ y₀ numbers points end y =
+    (d e : List ℕ) → CycleAsked f last before x d e at → Planted (plantAt f x ∷ []) at d e end₀ numbers₀ points₀ → Circling f x at d e y end numbers points
+
+abbrev μ-loop : tie.MeasureT-loop
+μ-loop f last before x numbers₀ points₀ at n end₀ y₀ numbers points end y = length f - end
+
+sub-tree-at : tie.Need-sub-tree-at Inv-loop μ-loop
+sub-tree-at c = omega (arith, c .before .before .before .before .before .pre .room)
+
+tree-at-requires : tie.Need-tree-at-requires Inv-loop μ-loop
+tree-at-requires c κs =
+    let s = c .before .before .before .before .before .before .before in
+    record { of = now (s .args .f); asked = circling-first (s .pre) }
+
+shared-slice-read-y : tie.Need-shared-slice-read-y Inv-loop μ-loop
+shared-slice-read-y c = c .before .before .before .before .before .before .before .before .before .before .before .before .before .pre .here
+
+cast-y : tie.Need-cast-y Inv-loop μ-loop
+cast-y c = omega (arith, c .shared-slice-known4 .given (c .before .before .before .before .before .before .before .before .before .before .before .before .before .args .x))
+
+loop-holds : tie.Need-loop-holds Inv-loop μ-loop
+loop-holds c = λ d e a w. circling-start a w
+
+sub-tree-at-2 : tie.Need-sub-tree-at-2 Inv-loop μ-loop
+sub-tree-at-2 c =
+    let a = c .before .before .before .before .before .before .before .before .before .before .before .before .before .before .before .pre in
+    circling-bound a (c .before .loop .inv _ _ a (c .before .before .before .before .before .before .before .tree-at .ensures _ (circling-first a)))
+
+tree-at-requires-2 : tie.Need-tree-at-requires-2 Inv-loop μ-loop
+tree-at-requires-2 c κs =
+    let s = c .before .before .before .before .before .before .before .before .before .before .before .before .before .before .before .before .before in
+    let g = c .before .before .before .loop .inv _ _ (s .pre) (c .before .before .before .before .before .before .before .before .before .tree-at .ensures _ (circling-first (s .pre))) in
+    record { of = now (s .args .f); asked = circling-asked (s .pre) g (c .before .before .loop-test .taken) }
+
+shared-slice-read-y-2 : tie.Need-shared-slice-read-y-2 Inv-loop μ-loop
+shared-slice-read-y-2 c =
+    let a = c .before .before .before .before .before .before .before .before .before .before .before .before .before .before .before .before .before .before .before .before .before .before .before .pre in
+    (c .before .before .before .before .before .before .before .before .before .loop .inv _ _ a (c .before .before .before .before .before .before .before .before .before .before .before .before .before .before .before .tree-at .ensures _ (circling-first a))) .here
+
+cast-y-2 : tie.Need-cast-y-2 Inv-loop μ-loop
+cast-y-2 c = omega (arith, c .shared-slice-known5 .given (c .before .before .before .before .before .before .before .before .before .loop .y))
+
+loop-less : tie.Need-loop-less Inv-loop μ-loop
+loop-less c =
+    let a = c .before .before .before .before .before .before .before .before .before .before .before .before .before .before .before .before .before .before .before .before .before .before .before .pre in
+    let g = c .before .before .before .before .before .before .before .before .before .loop .inv _ _ a (c .before .before .before .before .before .before .before .before .before .before .before .before .before .before .before .tree-at .ensures _ (circling-first a)) in
+    let q = c .before .before .before .before .before .before .before .before .loop-test .taken in
+    circling-less a g q (c .before .before .before .before .before .write-tree2 .ensures _ (circling-asked a g q))
+
+loop-again : tie.Need-loop-again Inv-loop μ-loop
+loop-again c =
+    λ d e a w.
+    let g = c .before .before .before .before .before .before .before .before .before .loop .inv d e a w in
+    let q = c .before .before .before .before .before .before .before .before .loop-test .taken in
+    circling-next a g q (c .before .before .before .before .before .write-tree2 .ensures _ (circling-asked a g q))
+
+same-length : tie.Need-same-length Inv-loop μ-loop
+same-length c =
+    let a = c .before .before .before .before .before .before .before .before .before .before .before .before .before .before .before .pre in
+    circling-numbers a (c .before .loop .inv _ _ a (c .before .before .before .before .before .before .before .tree-at .ensures _ (circling-first a))) ∙ sym (a .prepared .numbers-room)
+
+same-length-2 : tie.Need-same-length-2 Inv-loop μ-loop
+same-length-2 c =
+    let a = c .before .before .before .before .before .before .before .before .before .before .before .before .before .before .before .pre in
+    circling-labels a (c .before .loop .inv _ _ a (c .before .before .before .before .before .before .before .tree-at .ensures _ (circling-first a))) ∙ sym (a .prepared .labels-room)
+
+returns : tie.Need-returns Inv-loop μ-loop
+returns c =
+    let a = c .before .before .before .before .before .before .before .before .before .before .before .before .before .before .before .pre in
+    circling-end a (c .before .loop .inv _ _ a (c .before .before .before .before .before .before .before .tree-at .ensures _ (circling-first a))) (c .loop-test .left)
+
+pub trees-along-spec : {M : Type 1} → statement M
+trees-along-spec =
+    tie.close
+    (tie.spec
+    Inv-loop
+    μ-loop
+    sub-tree-at
+    tree-at-requires
+    shared-slice-read-y
+    cast-y
+    loop-holds
+    sub-tree-at-2
+    tree-at-requires-2
+    shared-slice-read-y-2
+    cast-y-2
+    loop-less
+    loop-again
+    same-length
+    same-length-2
+    returns)

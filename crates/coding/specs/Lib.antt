@@ -1,0 +1,3 @@
+-- What the functions from tables to systems mean.
+pub mod Writing
+pub mod Systems

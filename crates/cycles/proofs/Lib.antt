@@ -1,0 +1,6 @@
+-- The laws that the functions on the cycles of a table cite.
+pub mod Marks
+pub mod Marking
+pub mod Walking
+pub mod Descending
+pub mod Linking

@@ -1,0 +1,41 @@
+-- Points on cycles: where a walk leads, and marks that tell the points on cycles from the others.
+use mathlib.Core.Path.{_≡_}
+use mathlib.Core.Bool.{true, cond}
+use mathlib.Core.List.{List}
+use Prim.Native.Nat.{ℕ, zero, suc, _<_, _≤_}
+use lib.ListN.{length, getD}
+use Rattle.map_theory.specs.Iteration.{iterate}
+use Rattle.patterns.specs.Table.{image, isTable, onCycle, cycleFrom, leadsCycle}
+
+-- the length of the cycle whose least point is x, and 0 where there is none
+unfoldable pub lengthLed : ℕ → (ℕ → ℕ) → ℕ → ℕ
+lengthLed n f x = cond (leadsCycle n f x) (length (cycleFrom n f x)) 0
+
+-- a table of at most 200 points, and room for one mark for each point
+pub record MarksAsked (f marks : List ℕ) : Type 0 where
+  pub table : isTable f ≡ true
+  pub room : length marks ≡ length f
+  pub small : length f ≤ 200
+
+-- the images of a table are points, and out has a place for each point
+pub record Images (s out : List ℕ) : Type 0 where
+  pub inside : (x : ℕ) → x < length s → image s x < length s
+  pub room : length out ≡ length s
+
+-- far sends each point of f where so many steps lead, at least as many as there are points
+pub record Far (f far : List ℕ) : Type 0 where
+  pub steps : ℕ
+  pub enough : length f ≤ steps
+  pub places : length far ≡ length f
+  pub images : (x : ℕ) → x < length f → getD far x 0 ≡ iterate (image f) steps x
+
+-- the points on cycles are marked by 1, the others by 0
+pub record Marked (f marks : List ℕ) : Type 0 where
+  pub same : length marks ≡ length f
+  pub marks-are : (x : ℕ) → x < length f → getD marks x 0 ≡ cond (onCycle (length f) (image f) x) 1 0
+
+-- x is a point of a table whose points on cycles are marked
+pub record MarkedPoint (f marks : List ℕ) (x : ℕ) : Type 0 where
+  pub table : isTable f ≡ true
+  pub marked : Marked f marks
+  pub here : x < length f

@@ -1,0 +1,139 @@
+// Tables: which points are on cycles, which lead one, how long the cycles are, and which points hang where.
+use bytes::copy;
+use lists::set_all;
+use patterns::points_room;
+ghost use denote.Ref.{now};
+ghost use mathlib.Core.Path.{_≡_};
+ghost use mathlib.Core.Bool.{true};
+ghost use mathlib.Core.List.{List, map};
+ghost use Prim.Native.Nat.{ℕ, _+_, _<_};
+ghost use lib.ListN.{length};
+ghost use Rattle.patterns.specs.Table.{image, isTable};
+ghost use Rattle.cycles.specs.Links.{LinksAsked, Links};
+ghost use Rattle.cycles.specs.Leads.{Descends, LesserAsked, LeadsAsked, Leads};
+ghost use Rattle.cycles.specs.Marks.{lengthLed, MarksAsked, Images, Far, Marked, MarkedPoint};
+
+// `out` is the table of two steps of the table `s`.
+fn square(s: &[u8], out: &mut [u8])
+    requires { ⌜ Images (now s) (now out) ⌝ }
+    ensures { λ r. ⌜ now (out .exit) ≡ map (image (now (s .entry))) (now (s .entry)) ⌝ }
+{
+    let mut x = 0;
+    while x < s.len() {
+        let y = s[x] as usize;
+        out[x] = s[y];
+        x += 1;
+    }
+}
+
+// `far` is the table of at least as many steps as there are points: squaring doubles the steps.
+fn far_points(f: &[u8], far: &mut [u8], work: &mut [u8])
+    requires { ⌜ MarksAsked (now f) (now far) × (length (now work) ≡ length (now f)) ⌝ }
+    ensures { λ r. ⌜ Far (now (f .entry)) (now (far .exit)) ⌝ }
+{
+    copy(f, far);
+    let mut steps = 1;
+    while steps < f.len() {
+        square(far, work);
+        copy(work, far);
+        steps += steps;
+    }
+}
+
+// Marks the images of all points.
+fn mark_images(far: &[u8], marks: &mut [u8])
+    requires { ⌜ Images (now far) (now marks) ⌝ }
+    ensures { λ r. ⌜ ((f : List ℕ) → isTable f ≡ true → Far f (now (far .entry)) → Marked f (now (marks .exit))) ⌝ }
+{
+    set_all(marks, 0);
+    let mut x = 0;
+    while x < far.len() {
+        let y = far[x] as usize;
+        marks[y] = 1;
+        x += 1;
+    }
+}
+
+// Marks the points on cycles: those that are reached in many steps. The table of these steps stands in `far`.
+fn mark_reached(f: &[u8], far: &mut [u8], marks: &mut [u8])
+    requires { ⌜ MarksAsked (now f) (now far) × (length (now marks) ≡ length (now f)) ⌝ }
+    ensures { λ r. ⌜ Marked (now (f .entry)) (now (marks .exit)) ⌝ }
+{
+    far_points(f, far, marks);
+    mark_images(far, marks);
+}
+
+// `marks` tells the points on cycles, 1, from the others, 0.
+pub fn mark_cycles(f: &[u8], marks: &mut [u8])
+    requires { ⌜ MarksAsked (now f) (now marks) ⌝ }
+    ensures { λ r. ⌜ Marked (now (f .entry)) (now (marks .exit)) ⌝ }
+{
+    let mut far = points_room();
+    mark_reached(f, &mut far[..f.len()], marks);
+}
+
+// Links through the points that hang at a point, each one more than the point that it leads to, or 0 where there is none: `last[x]` leads to the
+// greatest that hangs at x, `before[y]` to the next lesser one that hangs where y does.
+pub fn link_branches(f: &[u8], marks: &[u8], last: &mut [u8], before: &mut [u8])
+    requires { ⌜ LinksAsked (now f) (now marks) (now last) (now before) ⌝ }
+    ensures { λ r. ⌜ Links (now (f .entry)) (length (now (f .entry))) (now (last .exit)) (now (before .exit)) ⌝ }
+{
+    set_all(last, 0);
+    let mut y = 0;
+    while y < f.len() {
+        if marks[y] == 0 {
+            let x = f[y] as usize;
+            before[y] = last[x];
+            last[x] = (y + 1) as u8;
+        }
+        y += 1;
+    }
+}
+
+// The length of the cycle whose least point is `x`, and 0 where there is none.
+pub fn length_led(f: &[u8], marks: &[u8], x: usize) -> usize
+    requires { ⌜ MarkedPoint (now f) (now marks) x ⌝ }
+    ensures { λ r. ⌜ r ≡ lengthLed (length (now (f .entry))) (image (now (f .entry))) x ⌝ }
+{
+    if marks[x] == 0 {
+        return 0;
+    }
+    let mut length = 1;
+    let mut y = f[x] as usize;
+    while y != x {
+        if y < x {
+            return 0;
+        }
+        y = f[y] as usize;
+        length += 1;
+    }
+    length
+}
+
+// The first point after `x` on its cycle that is not greater than `x`: `lesser` leads past the greater points between.
+fn next_lesser(f: &[u8], lesser: &[u8], x: usize) -> usize
+    requires { ⌜ LesserAsked (now f) (now lesser) x ⌝ }
+    ensures { λ r. ⌜ Descends (image (now (f .entry))) x r ⌝ }
+{
+    let mut y = f[x] as usize;
+    while x < y {
+        y = lesser[y] as usize;
+    }
+    y
+}
+
+// `leads` has x at place x exactly if x is the least point of a cycle.
+pub fn lead_cycles(f: &[u8], marks: &[u8], leads: &mut [u8])
+    requires { ⌜ LeadsAsked (now f) (now marks) (now leads) ⌝ }
+    ensures { λ r. ⌜ Leads (now (f .entry)) (now (leads .exit)) ⌝ }
+{
+    set_all(leads, 255);
+    let mut x = f.len();
+    while 0 < x {
+        x -= 1;
+        if marks[x] != 0 {
+            let y = next_lesser(f, leads, x);
+            leads[x] = y as u8;
+        }
+    }
+}

@@ -1,0 +1,239 @@
+-- The census of a map f on the points below n: every point on a cycle belongs to exactly one of the counted cycles, the cycle lengths add up to
+-- the points on cycles, the greatest distance and the longest cycle are those of the map, a census exists, and at most 19 lengths occur.
+use mathlib.Core.Path.{_≡_, refl, ap, sym, _∙_}
+use mathlib.Core.List.{List, [], _∷_, map}
+use mathlib.Core.Bool.{Bool, true, cond, _&&_}
+use Prim.Native.Nat.{ℕ, _+_, _-_, _*_, _≤_, _<_, compare}
+use native.Mathlib.Nat.{mul-zero, mul-one, mul-add}
+use native.Mathlib.Omega.{arith}
+use lib.Dec.{leb, eqb}
+use borrow.Author.Tests.{leb-true, leb-false, eqb-true, eqb-false}
+use lib.ListN.{length, length-map}
+use Rattle.lists.specs.Order.{same}
+use Rattle.lists.specs.Select.{keep, gather, total, range, times, once}
+use Rattle.lists.proofs.Tests.{_∈_, by-test, either, no-both}
+use Rattle.lists.proofs.Permute.{perm-length, total-one, total-zero, total-add, total-same, total-mono, total-keep, total-map, total-gather}
+use Rattle.lists.proofs.Members.{NoDup, compare-decides, in-head, in-tail, in-cons-cases, not-in-nil, in-map, of-map, in-keep, of-keep, in-range, of-range, in-once, of-once, nodup-keep, nodup-range, nodup-once}
+use Rattle.lists.proofs.Places.{times-out, times-in, in-of-times, times-nodup, nodup-times}
+use Rattle.lists.proofs.Pigeon.{inside-rest, same-members-perm, nodup-below-length}
+use Rattle.patterns.specs.Table.{onCycle, cycleFrom, leaders}
+use Rattle.patterns.specs.Census.{greatest, Row, cycleLengths, cyclesOf, stepsToCycle, height, longestCycle, Census}
+use Rattle.map_theory.proofs.Orbits.{every-point-reaches-cycle, iterate, iterate-inside}
+use Rattle.map_theory.proofs.Leaders.{cycle-nodup, cycle-onCycle, cycle-sym, cycle-trans, one-leader, of-leaders, leader-onCycle, has-leader, cycles-perm}
+
+-- no number of a list exceeds the greatest
+pub greatest-bound : {l : List ℕ} {x : ℕ} → x ∈ l → x ≤ greatest l
+greatest-bound {l} {x} m = bound l m
+  where
+    bound : (l : List ℕ) → x ∈ l → x ≤ greatest l
+    bound [] m = not-in-nil m
+    bound (y ∷ l) m =
+        by-test (leb (greatest l) y)
+        (λ t. rw t (let h = leb-true (greatest l) y t in either (in-cons-cases m) (λ e. omega arith) (λ k. let b = bound l k in omega arith)))
+        (λ t. rw t (let h = leb-false (greatest l) y t in either (in-cons-cases m) (λ e. omega arith) (λ k. bound l k)))
+
+-- which stands in the list, if it has a number
+pub greatest-in : (x : ℕ) (l : List ℕ) → greatest (x ∷ l) ∈ (x ∷ l)
+greatest-in x [] = by-test (leb 0 x) (λ t. rw t in-head) (λ t. absurd (let h = leb-false 0 x t in omega arith))
+greatest-in x (y ∷ l) =
+    by-test (leb (greatest (y ∷ l)) x) (λ t. rw t in-head) (λ t. rw t (in-tail (greatest-in y l)))
+
+pub greatest-member : (l : List ℕ) {x : ℕ} → x ∈ l → greatest l ∈ l
+greatest-member [] m = not-in-nil m
+greatest-member (y ∷ l) m = greatest-in y l
+
+total-twenty : (l : List ℕ) → total (λ x. 20) l ≡ 20 * length l
+total-twenty [] = refl
+total-twenty (x ∷ l) = omega (arith, total-twenty l)
+
+total-scale : (k : ℕ) (g : ℕ → ℕ) (l : List ℕ) → total (λ x. k * g x) l ≡ k * total g l
+total-scale k g [] = sym (mul-zero k)
+total-scale k g (x ∷ l) = ap (λ t. k * g x + t) (total-scale k g l) ∙ sym (mul-add k (g x) (total g l))
+
+-- different numbers from 1 on: k of them have a sum of at least 20 k − 190
+pub different-sum : (l : List ℕ) → NoDup l → ((x : ℕ) → x ∈ l → 0 < x) → 20 * length l ≤ total (λ x. x) l + 190
+different-sum l d h =
+    let w : ℕ → ℕ = λ x. 20 - x in
+    let p : ℕ → Bool = λ x. leb x 20 in
+    let low : total w (keep p l) ≤ 190 =
+    let r = inside-rest {m = range 1 20} (nodup-keep p d)
+    (λ x m. let s = of-keep p l m in let b = leb-true x 20 (s .1) in let c = h x (s .0) in in-range 1 20 (omega arith) (omega arith)) in
+    omega (arith, r .1 w) in
+    let all : total w (keep p l) ≡ total w l =
+    total-keep w p l ∙ total-same (λ x. cond (p x) (w x) 0) w l
+    (λ x m. by-test (p x) (λ t. rw t) (λ t. rw t (let b = leb-false x 20 t in omega arith))) in
+    omega (arith, total-twenty l, total-add (λ x. x) w l, total-mono (λ x. 20) (λ x. x + w x) l (λ x m. omega arith))
+
+module _ (n : ℕ) (f : ℕ → ℕ) where
+  -- all points of a cycle have cycles of the same length
+  pub cycle-length-same : (x : ℕ) {y : ℕ} → onCycle n f x ≡ true → y ∈ cycleFrom n f x → length (cycleFrom n f y) ≡ length (cycleFrom n f x)
+  cycle-length-same x {y} e m =
+      let o = cycle-onCycle n f x e m in
+      perm-length (same-members-perm (cycle-nodup n f y o) (cycle-nodup n f x e)
+      (λ z k. cycle-trans n f x e m k)
+      (λ z k. cycle-trans n f y o (cycle-sym n f x e m) k))
+
+  pub in-cycleLengths : {x : ℕ} → x ∈ leaders n f → length (cycleFrom n f x) ∈ cycleLengths n f
+  unfolding cycleLengths
+  in-cycleLengths m = in-map (λ x. length (cycleFrom n f x)) m
+
+  pub of-cycleLengths : {l : ℕ} → l ∈ cycleLengths n f → (x : ℕ) × (x ∈ leaders n f) × (l ≡ length (cycleFrom n f x))
+  unfolding cycleLengths
+  of-cycleLengths m = of-map (λ x. length (cycleFrom n f x)) (leaders n f) m
+
+  -- a cycle has a point
+  pub cycle-length-positive : (x : ℕ) → 0 < length (cycleFrom n f x)
+  unfolding cycleFrom
+  cycle-length-positive x = omega arith
+
+  pub cycleLengths-positive : (l : ℕ) → l ∈ cycleLengths n f → 0 < l
+  cycleLengths-positive l m = let r = of-cycleLengths m in omega (arith, cycle-length-positive (r .0))
+
+  -- which lengths occur
+  pub occurs : (l : ℕ) → 0 < cyclesOf n f l → l ∈ cycleLengths n f
+  unfolding cyclesOf
+  occurs l h = in-of-times l (cycleLengths n f) h
+
+  pub occurs-not : (l : ℕ) → cyclesOf n f l ≡ 0 → l ∈ cycleLengths n f → ⊥
+  unfolding cyclesOf
+  occurs-not l e m = let h = times-in m in omega arith
+
+  module _ (inside : (x : ℕ) → x < n → f x < n) where
+    -- a point stands once in the counted cycles if it is on a cycle, and otherwise not at all
+    pub cycle-points-once : (z : ℕ) → z < n → times z (gather (cycleFrom n f) (leaders n f)) ≡ cond (onCycle n f z) 1 0
+    cycle-points-once z h =
+        (cycles-perm n f inside) .totals (λ y. cond (same compare z y) 1 0)
+        ∙ by-test (onCycle n f z)
+        (λ t. times-nodup (nodup-keep (onCycle n f) (nodup-range 0 n)) (in-keep (onCycle n f) (in-range 0 n (omega arith) (omega arith)) t) ∙ rw t)
+        (λ t. times-out z (keep (onCycle n f) (range 0 n)) (λ m. no-both ((of-keep (onCycle n f) (range 0 n) m) .1) t) ∙ rw t)
+
+    -- every point on a cycle belongs to exactly one counted cycle, in which it stands once
+    pub every-cycle-once : (z : ℕ) → z < n → onCycle n f z ≡ true
+        → (x : ℕ) × (x ∈ leaders n f) × (times z (cycleFrom n f x) ≡ 1) × ((y : ℕ) → y ∈ leaders n f → z ∈ cycleFrom n f y → y ≡ x)
+    every-cycle-once z h e =
+        let r = has-leader n f inside z h e in (
+          r .0,
+          r .1,
+          times-nodup (cycle-nodup n f (r .0) (leader-onCycle n f inside (r .1))) (r .2),
+          λ y m k. one-leader n f y (r .0) ((of-leaders n f inside m) .1) ((of-leaders n f inside (r .1)) .1) k (r .2),
+        )
+
+    -- the cycle lengths add up to the number of points on cycles
+    pub lengths-add-up : total (λ l. l) (cycleLengths n f) ≡ length (keep (onCycle n f) (range 0 n))
+    unfolding cycleLengths
+    lengths-add-up =
+        total-map (λ l. l) (λ x. length (cycleFrom n f x)) (leaders n f)
+        ∙ total-same (λ x. length (cycleFrom n f x)) (λ x. total (λ y. 1) (cycleFrom n f x)) (leaders n f) (λ x m. sym (total-one (cycleFrom n f x)))
+        ∙ sym (total-gather (λ y. 1) (cycleFrom n f) (leaders n f))
+        ∙ total-one (gather (cycleFrom n f) (leaders n f))
+        ∙ perm-length (cycles-perm n f inside)
+
+    pub cycle-points-bound : length (keep (onCycle n f) (range 0 n)) ≤ n
+    cycle-points-bound =
+        nodup-below-length n (nodup-keep (onCycle n f) (nodup-range 0 n))
+        (λ x m. let r = of-range 0 n ((of-keep (onCycle n f) (range 0 n) m) .0) in omega arith)
+
+    -- the height is the greatest distance of a point from its cycle
+    pub height-bound : (x : ℕ) → x < n → stepsToCycle n f n x ≤ height n f
+    unfolding height
+    height-bound x h = greatest-bound (in-map (stepsToCycle n f n) (in-range 0 n (omega arith) (omega arith)))
+
+    pub height-reached : 0 < n → (x : ℕ) × (x < n) × (stepsToCycle n f n x ≡ height n f)
+    unfolding height
+    height-reached h =
+        let r = of-map (stepsToCycle n f n) (range 0 n)
+        (greatest-member (map (stepsToCycle n f n) (range 0 n)) (in-map (stepsToCycle n f n) (in-range 0 n {x = 0} (omega arith) (omega arith)))) in
+        let s = of-range 0 n (r .1) in
+        (r .0, omega arith, sym (r .2))
+
+    -- the longest cycle is the longest through any point
+    pub longest-bound : (x : ℕ) → x < n → onCycle n f x ≡ true → length (cycleFrom n f x) ≤ longestCycle n f
+    unfolding longestCycle
+    longest-bound x h e =
+        let r = has-leader n f inside x h e in
+        omega (arith, greatest-bound (in-cycleLengths (r .1)), cycle-length-same (r .0) (leader-onCycle n f inside (r .1)) (r .2))
+
+    pub longest-reached : 0 < n → (x : ℕ) × (x < n) × (onCycle n f x ≡ true) × (length (cycleFrom n f x) ≡ longestCycle n f)
+    unfolding longestCycle
+    longest-reached h =
+        let d = every-point-reaches-cycle n f inside 0 h in
+        let r = has-leader n f inside (iterate f (d .0) 0) (iterate-inside n f inside (d .0) 0 h) (d .2) in
+        let s = of-cycleLengths (greatest-member (cycleLengths n f) (in-cycleLengths (r .1))) in
+        (s .0, (of-leaders n f inside (s .1)) .0, leader-onCycle n f inside (s .1), sym (s .2))
+
+    -- l times the number of cycles of length l is the number of points on cycles of length l
+    pub cyclesOf-points : (l : ℕ) → l * cyclesOf n f l ≡ length (keep (λ x. onCycle n f x && eqb l (length (cycleFrom n f x))) (range 0 n))
+    unfolding cyclesOf cycleLengths
+    cyclesOf-points l =
+        let q : ℕ → ℕ = λ x. cond (eqb l (length (cycleFrom n f x))) 1 0 in
+        ap (λ t. l * t) (total-map (λ y. cond (same compare l y) 1 0) (λ x. length (cycleFrom n f x)) (leaders n f))
+        ∙ sym (total-scale l q (leaders n f))
+        ∙ total-same (λ x. l * q x) (λ x. total q (cycleFrom n f x)) (leaders n f) (λ x m. each-leader x (leader-onCycle n f inside m))
+        ∙ sym (total-gather q (cycleFrom n f) (leaders n f))
+        ∙ (cycles-perm n f inside) .totals q
+        ∙ total-keep q (onCycle n f) (range 0 n)
+        ∙ total-same (λ x. cond (onCycle n f x) (q x) 0) (λ x. cond (onCycle n f x && eqb l (length (cycleFrom n f x))) 1 0) (range 0 n)
+        (λ x m. by-test (onCycle n f x) (λ t. rw t) (λ t. rw t))
+        ∙ sym (total-keep (λ x. 1) (λ x. onCycle n f x && eqb l (length (cycleFrom n f x))) (range 0 n))
+        ∙ total-one (keep (λ x. onCycle n f x && eqb l (length (cycleFrom n f x))) (range 0 n))
+      where
+        each-leader : (x : ℕ) → onCycle n f x ≡ true
+            → l * cond (eqb l (length (cycleFrom n f x))) 1 0 ≡ total (λ y. cond (eqb l (length (cycleFrom n f y))) 1 0) (cycleFrom n f x)
+        each-leader x e =
+            let same-all : total (λ y. cond (eqb l (length (cycleFrom n f y))) 1 0) (cycleFrom n f x) ≡ total (λ y. cond (eqb l (length (cycleFrom n f x))) 1 0) (cycleFrom n f x) =
+            total-same (λ y. cond (eqb l (length (cycleFrom n f y))) 1 0) (λ y. cond (eqb l (length (cycleFrom n f x))) 1 0) (cycleFrom n f x)
+            (λ y m. ap (λ k. cond (eqb l k) 1 0) (cycle-length-same x e m)) in
+            by-test (eqb l (length (cycleFrom n f x)))
+            (λ t. ap (λ b. l * cond b 1 0) t ∙ mul-one l ∙ eqb-true l (length (cycleFrom n f x)) t ∙ sym (total-one (cycleFrom n f x))
+            ∙ sym (same-all ∙ ap (λ b. total (λ y. cond b 1 0) (cycleFrom n f x)) t))
+            (λ t. ap (λ b. l * cond b 1 0) t ∙ mul-zero l ∙ sym (total-zero (cycleFrom n f x))
+            ∙ sym (same-all ∙ ap (λ b. total (λ y. cond b 1 0) (cycleFrom n f x)) t))
+
+    -- at most 19 different lengths occur among at most 200 points
+    pub census-fits : (rows : List Row) → Census n f rows → n ≤ 200 → length rows ≤ 19
+    census-fits rows c h =
+        let ls : List ℕ = map (λ r. r .cycleLength) rows in
+        let d : NoDup ls = nodup-times ls (λ l. by-test (eqb (cyclesOf n f l) 0)
+        (λ t. let e = c .once l in let e′ : times l ls ≡ 0 = rw t at e in omega arith)
+        (λ t. let e = c .once l in let e′ : times l ls ≡ 1 = rw t at e in omega arith)) in
+        let i : (l : ℕ) → l ∈ ls → l ∈ cycleLengths n f = λ l m. by-test (eqb (cyclesOf n f l) 0)
+        (λ t. let e = c .once l in let e′ : times l ls ≡ 0 = rw t at e in let b = times-in m in absurd (omega arith))
+        (λ t. let b = eqb-false (cyclesOf n f l) 0 t in occurs l (omega arith)) in
+        let r = inside-rest d i in
+        let s = different-sum ls d (λ l m. cycleLengths-positive l (i l m)) in
+        omega (arith, length-map rows (λ r. r .cycleLength), r .1 (λ l. l), lengths-add-up, cycle-points-bound)
+
+  -- the row of a length
+  abbrev row : ℕ → Row
+  row l = record { cycleLength = l; cycles = cyclesOf n f l }
+
+  row-lengths : (ls : List ℕ) → map (λ (r : Row). r .cycleLength) (map row ls) ≡ ls
+  row-lengths [] = refl
+  row-lengths (l ∷ ls) = ap (λ r. l ∷ r) (row-lengths ls)
+
+  row-counts : (ls : List ℕ) → map (λ (r : Row). r .cycles) (map row ls) ≡ map (λ (r : Row). cyclesOf n f (r .cycleLength)) (map row ls)
+  row-counts [] = refl
+  row-counts (l ∷ ls) = ap (λ r. cyclesOf n f l ∷ r) (row-counts ls)
+
+  -- there is a census: one row for each length that occurs
+  pub census-exists : (rows : List Row) × Census n f rows
+  census-exists =
+      let ls : List ℕ = once compare (cycleLengths n f) in (
+        map row ls,
+        record {
+          once = λ l. ap (times l) (row-lengths ls) ∙ by-test (eqb (cyclesOf n f l) 0)
+              (λ t. rw t (times-out l ls (λ m. occurs-not l (eqb-true (cyclesOf n f l) 0 t) (of-once compare (cycleLengths n f) m))))
+              (λ t. rw t (times-nodup (nodup-once compare-decides (cycleLengths n f))
+              (in-once compare-decides (let b = eqb-false (cyclesOf n f l) 0 t in occurs l (omega arith)))));
+          counted = row-counts ls;
+        },
+      )
+
+-- no point, no height, no cycle
+pub empty-height : (f : ℕ → ℕ) → height 0 f ≡ 0
+unfolding height
+empty-height f = refl
+
+pub empty-longest : (f : ℕ → ℕ) → longestCycle 0 f ≡ 0
+unfolding longestCycle cycleLengths leaders
+empty-longest f = refl

@@ -1,0 +1,21 @@
+-- The theory of maps: the code of a map and the map of a code.
+pub mod Pictures
+pub mod Cycles
+pub mod Plants
+pub mod Ordered
+pub mod Placed
+pub mod Shown
+pub mod MapOf
+pub mod Isomorphisms
+pub mod Renamed
+pub mod Labelled
+pub mod Orbits
+pub mod Leaders
+pub mod Distances
+pub mod Levels
+pub mod PlantAt
+pub mod SortedCanonical
+pub mod Exists
+pub mod FromLeaders
+pub mod Theorems
+pub mod CensusTheory

@@ -1,0 +1,98 @@
+-- Writing the map of a system, component by component.
+use mathlib.Core.Path.{_≡_, refl, ap, sym, _∙_}
+use mathlib.Core.List.{List, [], _++_, map, append-assoc, append-nil}
+use Prim.Native.Nat.{ℕ, _+_, _≤_, _<_}
+use native.Mathlib.Omega.{arith}
+use lib.ListN.{length, getD, length-append, length-map, drop-of-length-le}
+use Rattle.lists.specs.Select.{gather}
+use Rattle.patterns.specs.Component.{Component, points, flat}
+use Rattle.patterns.specs.System.{System, weight}
+use Rattle.patterns.specs.MapOf.{cycleImages, imagesFrom, mapOf}
+use Rattle.written.specs.Putting.{placed}
+use Rattle.written.proofs.Placing.{placed-none}
+use Rattle.memory.specs.Memory.{Stands}
+use Rattle.mapping.specs.Images.{ComponentStands, HeldMap}
+use Rattle.map_theory.proofs.MapOf.{length-cycleImages, length-imagesFrom}
+use Rattle.mapping.proofs.Imaging.{placed-join}
+use Rattle.memory.proofs.SystemWalks.{length-gather-flat, AlongSystem, NextComponent, system-start, system-next, system-end, system-step, component-stands, component-size, component-ends}
+
+-- the components before the place start have their images
+pub record Mapping (S : System) (i start : ℕ) (out₀ out : List ℕ) : Type 0 where
+  pub along : AlongSystem S i start
+  pub done : List ℕ
+  pub count : length done ≡ start
+  pub images : imagesFrom 0 S ≡ done ++ imagesFrom start (along .rest)
+  pub output : out ≡ placed 0 done out₀
+
+pub mapping-start : (S : System) (out : List ℕ) → Mapping S 0 0 out out
+unfolding system-start
+mapping-start S out = record { along = system-start S; done = []; count = refl; images = refl; output = sym (placed-none 0 out) }
+
+pub mapping-next : {S : System} {i start : ℕ} {out₀ out : List ℕ} (m : Mapping S i start out₀ out) (n : NextComponent (m .along)) (end : ℕ) (out′ : List ℕ)
+    → weight S ≤ length out₀ → end ≡ start + points (n .component)
+    → out′ ≡ placed start (cycleImages start start (n .component)) out → Mapping S (i + 1) end out₀ out′
+unfolding system-step
+mapping-next {S} {i} {start} {out₀} {out} m n end out′ fits e o =
+    let new : List ℕ = cycleImages start start (n .component) in
+    record {
+      along = system-step (m .along) n end e;
+      done = m .done ++ new;
+      count = omega (arith, length-append (m .done) new, length-cycleImages start start (n .component), m .count);
+      images =
+          m .images
+          ∙ ap (λ l. m .done ++ imagesFrom start l) (n .is)
+          ∙ ap (λ k. m .done ++ (new ++ imagesFrom k (n .later))) (sym e)
+          ∙ sym (append-assoc (m .done) new (imagesFrom end (n .later)));
+      output =
+          o
+          ∙ placed-join 0 start (m .done) new out₀ out (omega (arith, m .count)) (omega (arith, m .count, component-ends (m .along) n)) (m .output);
+    }
+
+-- at the end the map is written
+pub mapping-end : {S : System} {i start : ℕ} {out₀ out : List ℕ} → Mapping S i start out₀ out → length S ≤ i → length out₀ ≡ weight S → out ≡ mapOf S
+unfolding mapOf
+mapping-end {S} {i} {start} {out₀} {out} m h e =
+    m .output
+    ∙ ap (λ l. placed 0 l out₀) (sym (m .images ∙ ap (λ l. m .done ++ imagesFrom start l) (system-end (m .along) h) ∙ append-nil (m .done)))
+    ∙ ap (λ r. mapOf S ++ r) (drop-of-length-le out₀ {i = 0 + length (imagesFrom 0 S)} (omega (arith, length-imagesFrom 0 S)))
+    ∙ append-nil (mapOf S)
+
+module _ {sizes numbers out₀ out : List ℕ} {i start : ℕ} (a : HeldMap sizes numbers out₀) (same : length out ≡ length out₀)
+    (inv : (S : System) → sizes ≡ map points S → numbers ≡ gather flat S → Mapping S i start out₀ out) (h : i < length sizes) where
+  next : (S : System) (e : sizes ≡ map points S) (g : numbers ≡ gather flat S) → NextComponent ((inv S e g) .along)
+  next S e g = system-next ((inv S e g) .along) (omega (arith, ap length e, length-map S points))
+
+  -- the component at start may be asked for
+  pub asked-component : ComponentStands numbers start (start + getD sizes i 0) out
+  asked-component =
+      let w = (inv (a .system) (a .sizes-are) (a .numbers-are)) .along in
+      let n = next (a .system) (a .sizes-are) (a .numbers-are) in
+      record {
+        trees = n .component;
+        stands = component-stands w n (a .numbers-are);
+        ends = ap (λ k. start + k) (component-size w n (a .sizes-are));
+        room = record { same = same ∙ a .room .same; small = a .room .small };
+      }
+
+  pub asked-end : start + getD sizes i 0 ≤ length numbers
+  asked-end =
+      let w = (inv (a .system) (a .sizes-are) (a .numbers-are)) .along in
+      let n = next (a .system) (a .sizes-are) (a .numbers-are) in
+      omega (arith, component-size w n (a .sizes-are), component-ends w n, ap length (a .numbers-are), length-gather-flat (a .system))
+
+  -- after the component at start the next one follows
+  pub components-next : (out′ : List ℕ)
+      → ((c : Component) → Stands (flat c) start numbers → start + getD sizes i 0 ≡ start + points c → out′ ≡ placed start (cycleImages start start c) out)
+      → (S : System) → sizes ≡ map points S → numbers ≡ gather flat S → Mapping S (i + 1) (start + getD sizes i 0) out₀ out′
+  components-next out′ wrote S e g =
+      let m = inv S e g in
+      let n = next S e g in
+      let q : start + getD sizes i 0 ≡ start + points (n .component) = ap (λ k. start + k) (component-size (m .along) n e) in
+      mapping-next m n (start + getD sizes i 0) out′ (omega (arith, ap length g, length-gather-flat S, a .room .same)) q
+      (wrote (n .component) (component-stands (m .along) n g) q)
+
+pub map-written : {sizes numbers out₀ out : List ℕ} {i start : ℕ} → HeldMap sizes numbers out₀
+    → ((S : System) → sizes ≡ map points S → numbers ≡ gather flat S → Mapping S i start out₀ out) → length sizes ≤ i
+    → (S : System) → sizes ≡ map points S → numbers ≡ gather flat S → out ≡ mapOf S
+map-written a inv h S e g =
+    mapping-end (inv S e g) (omega (arith, ap length e, length-map S points)) (omega (arith, ap length g, length-gather-flat S, a .room .same))

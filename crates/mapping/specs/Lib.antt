@@ -1,0 +1,2 @@
+-- What the functions from codes to maps mean.
+pub mod Images
