@@ -7,7 +7,7 @@ use cycles::link_branches;
 use lists::exchange;
 use patterns::points_room;
 ghost use denote.Ref.{now};
-ghost use mathlib.Core.List.{List, _∷_, map};
+ghost use mathlib.Core.List.{List, [], _∷_, map};
 ghost use Prim.Native.Nat.{ℕ, _+_, _<_};
 ghost use Rattle.patterns.specs.Tree.{code};
 ghost use Rattle.map_theory.specs.Plants.{plantAt, plantsAlong};

@@ -3,10 +3,10 @@
 use census::Rows;
 use census::census as census_of;
 use census::fill;
+use cycles::mark_cycles;
 use lists::Order;
 use lists::compare;
 use mapping::map_of;
-use cycles::mark_cycles;
 pub use patterns::Census;
 pub use patterns::Isomorphism;
 use patterns::Refusal;

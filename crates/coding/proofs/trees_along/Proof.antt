@@ -59,14 +59,14 @@ loop-less c =
     let a = c .before .before .before .before .before .before .before .before .before .before .before .before .before .before .before .before .before .before .before .before .before .before .before .pre in
     let g = c .before .before .before .before .before .before .before .before .before .loop .inv _ _ a (c .before .before .before .before .before .before .before .before .before .before .before .before .before .before .before .tree-at .ensures _ (circling-first a)) in
     let q = c .before .before .before .before .before .before .before .before .loop-test .taken in
-    circling-less a g q (c .before .before .before .before .before .write-tree2 .ensures _ (circling-asked a g q))
+    circling-less a g q (c .before .before .before .before .before .tree-at2 .ensures _ (circling-asked a g q))
 
 loop-again : tie.Need-loop-again Inv-loop μ-loop
 loop-again c =
     λ d e a w.
     let g = c .before .before .before .before .before .before .before .before .before .loop .inv d e a w in
     let q = c .before .before .before .before .before .before .before .before .loop-test .taken in
-    circling-next a g q (c .before .before .before .before .before .write-tree2 .ensures _ (circling-asked a g q))
+    circling-next a g q (c .before .before .before .before .before .tree-at2 .ensures _ (circling-asked a g q))
 
 same-length : tie.Need-same-length Inv-loop μ-loop
 same-length c =
