@@ -3,10 +3,10 @@ use mathlib.Core.Path.{_≡_, refl, ap, ap₂, sym, _∙_}
 use mathlib.Core.Bool.{Bool, true, false, not}
 use mathlib.Core.List.{List, [], _∷_, _++_, append-nil, append-assoc}
 use Prim.Native.Nat.{ℕ, zero, suc, Ordering, Ordering·lt, compare}
+use Rattle.lists.specs.Order.{lexBy}
 use Rattle.lists.specs.Select.{gather}
 use Rattle.lists.proofs.Tests.{_∈_, either}
 use Rattle.lists.proofs.Comparison.{compare-lawful}
-use Rattle.lists.proofs.Lex.{lexBy}
 use Rattle.lists.proofs.Members.{not-in-nil, in-single, of-gather}
 use Rattle.lists.proofs.Rising.{Rising, rising-nil, rising-cons, rising-single, rising-append, rising-gather-rising}
 use Rattle.lists.proofs.RisingPlaces.{flagAfter, flagAfter-last, lexBy-strip}

@@ -6,9 +6,9 @@ use mathlib.Core.List.{List, [], _∷_, _++_}
 use Prim.Native.Nat.{ℕ, zero, suc, _-_, Ordering·lt, Ordering·eq, compare}
 use native.Mathlib.Omega.{arith}
 use lib.ListN.{length, length-replicate, length-append}
-use Rattle.lists.specs.Order.{then}
+use Rattle.lists.specs.Order.{then, lexBy}
 use Rattle.lists.proofs.Comparison.{Lawful, opposite, by-order, compare-lawful, keys-lawful, then-is-eq, eq-of-compare, compare-self}
-use Rattle.lists.proofs.Lex.{lexBy, lexBy-lawful}
+use Rattle.lists.proofs.Lex.{lexBy-lawful}
 use Rattle.lists.proofs.Members.{Decides, lawful-decides}
 use Rattle.lists.proofs.Places.{place-injective}
 use Rattle.lists.proofs.Rising.{Rising}

@@ -24,7 +24,8 @@ use Rattle.components.specs.declared.Climb.the-variants.{Root as NoParent, Key}
 use Rattle.component_theory.proofs.Lemma8.{parent-valid, parent-points}
 use Rattle.component_theory.proofs.Children.{in-candidates, child-candidate, children-parent}
 use Rattle.component_theory.specs.Path.{key}
-use Rattle.component_theory.proofs.ChildPlaces.{childFrom, nextSibling-place, length-candidates}
+use Rattle.component_theory.specs.ChildPlaces.{childFrom}
+use Rattle.component_theory.proofs.ChildPlaces.{nextSibling-place, length-candidates}
 use Rattle.component_theory.proofs.Generation.{length-points, valid-positive}
 use Rattle.component_theory.proofs.Successor.{successor-is}
 use Rattle.generation.specs.Step.{Node, Gave, Beside}

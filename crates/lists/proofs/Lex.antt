@@ -7,19 +7,9 @@ use mathlib.Core.List.{List, [], _∷_, _++_, map}
 use Prim.Native.Nat.{ℕ, zero, suc, compare, Ordering, Ordering·lt, Ordering·eq, Ordering·gt}
 use native.Mathlib.Omega.{arith}
 use lib.ListN.{length}
-use Rattle.lists.specs.Order.{then, lex}
+use Rattle.lists.specs.Order.{then, lex, lexBy}
 use Rattle.lists.proofs.Tests.{by-test, either}
 use Rattle.lists.proofs.Comparison.{Lawful, opposite, by-order, compare-lawful, then-is-eq, then-is-lt, then-assoc, lt-not-eq, lt-not-gt, eq-not-gt, opposite-then}
-
--- Lexicographic: the first difference decides. Where there is none, the shorter list comes first if the flag says true, and last if it says false.
--- `next` gives the flag of the lists without their first entries.
-abbrev pub lexBy : {A : Type 0} → (A → A → Ordering) → (Bool → Bool) → Bool → List A → List A → Ordering
-lexBy c next e [] [] = Ordering·eq
-lexBy c next e [] (y ∷ m) = cond e Ordering·lt Ordering·gt
-lexBy c next e (x ∷ l) [] = cond e Ordering·gt Ordering·lt
-lexBy c next e (x ∷ l) (y ∷ m) =
-    let rest = lexBy c next (next e) l m in
-    then (c x y) rest
 
 -- the answers of the two flags are opposite
 flag-turned : (e : Bool) → cond e Ordering·gt Ordering·lt ≡ opposite (cond e Ordering·lt Ordering·gt)

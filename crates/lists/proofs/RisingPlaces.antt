@@ -6,11 +6,10 @@ use Prim.Native.Nat.{ℕ, suc, Ordering, Ordering·lt, Ordering·eq, compare}
 use native.Mathlib.Omega.{arith}
 use lib.Dec.{ltb}
 use borrow.Author.Tests.{lt-ltb, le-ltb}
-use Rattle.lists.specs.Order.{same}
+use Rattle.lists.specs.Order.{same, lexBy}
 use Rattle.lists.specs.Select.{keep, once, place, first, next}
 use Rattle.lists.proofs.Tests.{_∈_, by-test, either, no-both, not-of-true}
 use Rattle.lists.proofs.Comparison.{Lawful, opposite, by-order, compare-lt, compare-gt, compare-self, lt-of-compare, gt-of-compare, eq-of-compare}
-use Rattle.lists.proofs.Lex.{lexBy}
 use Rattle.lists.proofs.Members.{Decides, in-head, in-tail, in-cons-cases, not-in-nil, of-keep, of-once, keep-all}
 use Rattle.lists.proofs.Rising.{Rising, rising-nil, rising-cons, rising-keep}
 
