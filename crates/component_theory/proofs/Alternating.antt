@@ -10,7 +10,8 @@ use Rattle.lists.proofs.Comparison.{compare-lawful}
 use Rattle.lists.proofs.Members.{not-in-nil, in-single, of-gather}
 use Rattle.lists.proofs.Rising.{Rising, rising-nil, rising-cons, rising-single, rising-append, rising-gather-rising}
 use Rattle.lists.proofs.RisingPlaces.{flagAfter, flagAfter-last, lexBy-strip}
-use Rattle.component_theory.proofs.Traversal.{walk, of-walk}
+use Rattle.patterns.specs.Generation.{walk}
+use Rattle.component_theory.proofs.Traversal.{of-walk}
 
 -- The alternating order of paths: the first difference decides; where there is none, the shorter path comes first if its length is even, and last if it is odd.
 abbrev pub compareAlternating : List ℕ → List ℕ → Ordering

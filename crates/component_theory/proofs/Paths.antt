@@ -14,12 +14,12 @@ use Rattle.lists.proofs.Places.{place-injective}
 use Rattle.lists.proofs.Rising.{Rising}
 use Rattle.patterns.specs.Tree.{point}
 use Rattle.patterns.specs.Component.{Component, points, compareComponent, validComponent}
-use Rattle.patterns.specs.Generation.{hasParent, parent, candidates, isChild, children, generation}
+use Rattle.patterns.specs.Generation.{hasParent, parent, candidates, isChild, children, cycle, generation}
 use Rattle.patterns.specs.System.{generationPlace, compareGenerated}
 use Rattle.patterns.proofs.Trees.{compareComponent-lawful}
 use Rattle.component_theory.proofs.Lemma8.{parent-points, parent-length}
 use Rattle.component_theory.proofs.Children.{children-parent}
-use Rattle.component_theory.proofs.Generation.{cycleOf, cycle-points, length-points, generation-is-walk, generation-sound, generation-complete}
+use Rattle.component_theory.proofs.Generation.{cycle-points, length-points, generation-is-walk, generation-sound, generation-complete}
 use Rattle.lists.proofs.RisingPlaces.{once-keep-rises, rising-change, rising-places}
 use Rattle.component_theory.specs.Path.{key, path-of, path}
 use Rattle.component_theory.proofs.Alternating.{Keyed, compareAlternating, walk-rises}
@@ -34,11 +34,11 @@ parent-path c t =
     let h : points c - length c ≡ suc (points (parent c) - length (parent c)) = omega (arith, parent-points c, parent-length c t, length-points (parent c)) in
     ap (λ k. path-of k c) h
 
-pub cycle-path : (n : ℕ) → path (cycleOf n) ≡ []
+pub cycle-path : (n : ℕ) → path (cycle n) ≡ []
 unfolding path
 cycle-path n =
-    let h : points (cycleOf n) - length (cycleOf n) ≡ 0 = omega (arith, cycle-points n, length-replicate n point) in
-    ap (λ k. path-of k (cycleOf n)) h
+    let h : points (cycle n) - length (cycle n) ≡ 0 = omega (arith, cycle-points n, length-replicate n point) in
+    ap (λ k. path-of k (cycle n)) h
 
 path-of-length : (k : ℕ) (c : Component) → length (path-of k c) ≡ k
 unfolding path-of
@@ -65,7 +65,7 @@ components-keyed = record {
 
 -- the generation list rises by the alternating order of paths
 pub generation-rises : (n : ℕ) → Rising (λ c d. compareAlternating (path c) (path d)) (generation n)
-generation-rises n = rw (generation-is-walk n) (walk-rises components-keyed n true (cycleOf n) (rw (cycle-path n)))
+generation-rises n = rw (generation-is-walk n) (walk-rises components-keyed n true (cycle n) (rw (cycle-path n)))
 
 alternating-lawful : Lawful compareAlternating
 alternating-lawful = lexBy-lawful compare-lawful not true
