@@ -11,4 +11,3 @@ pub mod Paths
 pub mod Pieces
 pub mod LocalStep
 pub mod Successor
-pub mod Scan

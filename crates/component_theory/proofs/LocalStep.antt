@@ -14,7 +14,7 @@ use Rattle.lists.proofs.Members.{Decides, lawful-decides}
 use Rattle.lists.proofs.Follow.{Within, next-within, within-next, within-last, within-some-in}
 use Rattle.patterns.specs.Tree.{point}
 use Rattle.patterns.specs.Component.{Component, points, compareComponent, validComponent}
-use Rattle.patterns.specs.Generation.{hasParent, parent, children, walk, cycle}
+use Rattle.patterns.specs.Generation.{hasParent, parent, walk, cycle}
 use Rattle.patterns.proofs.Trees.{compareComponent-lawful}
 use Rattle.component_theory.specs.LocalStep.{evenDepth, early, afterEarly, afterLate, stepIn}
 use Rattle.component_theory.proofs.Lemma8.{parent-valid, parent-points, parent-length}
@@ -112,7 +112,7 @@ module _ {kids : Component → List Component} (a : Arranged kids) (even : Bool)
   pub stepIn-valid : (c d : Component) → validComponent c ≡ true → stepIn kids even c ≡ some d → (validComponent d ≡ true) × (points d ≡ points c)
   stepIn-valid c d v e = arranged-sound a even (points c) d (within-some-in (rw e at (stepIn-within c v)))
 
-  -- there is no step exactly from the last
+  -- where there is no step, the walk ends
   pub stepIn-none : (c : Component) → validComponent c ≡ true → stepIn kids even c ≡ none
       → (l : List Component) × (walk kids (points c) even (cycle (points c)) ≡ l ++ (c ∷ []))
   stepIn-none c v e = within-last (rw e at (stepIn-within c v))

@@ -2,12 +2,12 @@
 -- points are listed in the alternating order of their paths.
 use mathlib.Core.Path.{_≡_, refl, ap, ap₂, sym, _∙_}
 use mathlib.Core.Bool.{true, not}
-use mathlib.Core.List.{List, [], _∷_, _++_}
-use Prim.Native.Nat.{ℕ, zero, suc, _-_, Ordering·lt, Ordering·eq, compare}
+use mathlib.Core.List.{[], _∷_, _++_}
+use Prim.Native.Nat.{ℕ, zero, suc, _-_, Ordering·eq, compare}
 use native.Mathlib.Omega.{arith}
 use lib.ListN.{length, length-replicate, length-append}
 use Rattle.lists.specs.Order.{then, lexBy}
-use Rattle.lists.proofs.Comparison.{Lawful, opposite, by-order, compare-lawful, keys-lawful, then-is-eq, eq-of-compare, compare-self}
+use Rattle.lists.proofs.Comparison.{Lawful, by-order, compare-lawful, keys-lawful, then-is-eq, eq-of-compare, compare-self}
 use Rattle.lists.proofs.Lex.{lexBy-lawful}
 use Rattle.lists.proofs.Members.{Decides, lawful-decides}
 use Rattle.lists.proofs.Places.{place-injective}
@@ -90,14 +90,6 @@ generated-equal c d v u e =
     let q = eq-of-compare (generationPlace c) (generationPlace d) (r .1) in
     place-injective component-decides (generation-complete c v) (rw (sym p) at (generation-complete d u)) (rw (sym p) at q)
 
--- valid components with equal paths and equal numbers of points are equal
-pub path-injective : (c d : Component) → validComponent c ≡ true → validComponent d ≡ true → points c ≡ points d → path c ≡ path d → c ≡ d
-unfolding compareGenerated
-path-injective c d v u e p =
-    generated-equal c d v u
-    (ap₂ then (ap (compare (points c)) (sym e) ∙ compare-self (points c))
-    (generation-order c d v u e ∙ ap (compareAlternating (path c)) (sym p) ∙ alternating-lawful .self (path c)))
-
 -- Definition 14's order is: by number of points, and then by the alternating order of paths
 pub generated-paths : (c d : Component) → validComponent c ≡ true → validComponent d ≡ true
     → compareGenerated c d ≡ then (compare (points c) (points d)) (lexBy compare not true (path c) (path d))
@@ -128,11 +120,3 @@ place-of c = (points c, generationPlace c)
 pub generated-self : (c : Component) → compareGenerated c c ≡ Ordering·eq
 unfolding compareGenerated place-of
 generated-self c = places-lawful .self (place-of c)
-
-pub generated-turned : (c d : Component) → compareGenerated d c ≡ opposite (compareGenerated c d)
-unfolding compareGenerated place-of
-generated-turned c d = places-lawful .turned (place-of c) (place-of d)
-
-pub generated-chain : (b c d : Component) → compareGenerated b c ≡ Ordering·lt → compareGenerated c d ≡ Ordering·lt → compareGenerated b d ≡ Ordering·lt
-unfolding compareGenerated place-of
-generated-chain b c d = places-lawful .chain (place-of b) (place-of c) (place-of d)

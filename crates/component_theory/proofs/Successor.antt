@@ -29,7 +29,7 @@ pub successor-valid : (c d : Component) → validComponent c ≡ true → succes
 unfolding successor
 successor-valid = stepIn-valid children-arranged true
 
--- nothing follows exactly the last
+-- where there is no successor, the list ends
 pub successor-none : (c : Component) → validComponent c ≡ true → successor c ≡ none → (a : List Component) × (generation (points c) ≡ a ++ (c ∷ []))
 unfolding generation successor
 successor-none = stepIn-none children-arranged true
