@@ -3,14 +3,15 @@ use mathlib.Core.Path.{_≡_, refl, ap, ap₂, sym, _∙_}
 use mathlib.Core.Bool.{Bool, true, false, not}
 use mathlib.Core.List.{List, [], _∷_, _++_, append-nil, append-assoc}
 use Prim.Native.Nat.{ℕ, zero, suc, Ordering, Ordering·lt, compare}
+use Rattle.lists.specs.Order.{lexBy}
 use Rattle.lists.specs.Select.{gather}
 use Rattle.lists.proofs.Tests.{_∈_, either}
 use Rattle.lists.proofs.Comparison.{compare-lawful}
-use Rattle.lists.proofs.Lex.{lexBy}
 use Rattle.lists.proofs.Members.{not-in-nil, in-single, of-gather}
 use Rattle.lists.proofs.Rising.{Rising, rising-nil, rising-cons, rising-single, rising-append, rising-gather-rising}
 use Rattle.lists.proofs.RisingPlaces.{flagAfter, flagAfter-last, lexBy-strip}
-use Rattle.component_theory.proofs.Traversal.{walk, of-walk}
+use Rattle.patterns.specs.Generation.{walk}
+use Rattle.component_theory.proofs.Traversal.{of-walk}
 
 -- The alternating order of paths: the first difference decides; where there is none, the shorter path comes first if its length is even, and last if it is odd.
 abbrev pub compareAlternating : List ℕ → List ℕ → Ordering

@@ -4,7 +4,7 @@
 use mathlib.Core.Path.{_≡_, refl, ap, ap₂, sym, _∙_}
 use mathlib.Core.Bool.{true, false, not, cond, _&&_}
 use mathlib.Core.List.{List, [], _∷_, _++_, map, map-append, append-assoc, head-eq-of-cons-eq, tail-eq-of-cons-eq}
-use mathlib.Core.Option.{Option, none}
+use mathlib.Core.Option.{none}
 use Prim.Native.Nat.{ℕ, zero, suc, _+_, _-_, _≤_, _<_}
 use native.Mathlib.Omega.{arith}
 use lib.Dec.{eqb, leb}
@@ -21,22 +21,13 @@ use Rattle.patterns.specs.Tree.{Tree, point, merge, compareTree, lastAtMost}
 use Rattle.patterns.specs.Component.{Component, compareComponent, validComponent}
 use Rattle.patterns.specs.Generation.{hasParent, parent, leftMerges, rightMerges, candidates, isChild}
 use Rattle.patterns.proofs.Trees.{compareTree-lawful, compareComponent-lawful}
+use Rattle.component_theory.specs.ChildPlaces.{childAt, childFrom}
 use Rattle.component_theory.specs.Successor.{firstChild, nextSibling}
-use Rattle.lists.proofs.Passing.{newAt, once-keep, once-next}
+use Rattle.lists.proofs.Passing.{once-keep, once-next}
 use Rattle.component_theory.proofs.Lemma8.{nonempty-append}
 use Rattle.component_theory.proofs.Children.{mergesBy, merge-right, left-by, right-by, child-candidate, children-candidate}
 use Rattle.component_theory.specs.Path.{key}
 use Rattle.component_theory.proofs.Keys.{isLeast, length-merges, left-place, right-place, left-child, right-child, point-not-merge, and-right, left-candidate-place, right-candidate-place}
-
--- the child at place k of the candidates of c, if there is one that has not stood before
-unfoldable pub childAt : Component → ℕ → List Component
-unfolding newAt
-childAt c k = newAt (lawful-decides compareComponent-lawful) (isChild c) [] (candidates c) k
-
--- the first child of c at a place from k on
-unfoldable pub childFrom : Component → ℕ → Option Component
-unfolding childAt
-childFrom c k = first (gather (childAt c) (range k (length (candidates c) - k)))
 
 -- the first child is the first from place 0 on
 pub firstChild-place : (c : Component) → firstChild c ≡ childFrom c 0

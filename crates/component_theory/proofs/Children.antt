@@ -5,9 +5,9 @@ use mathlib.Core.List.{List, [], _∷_, _++_, map}
 use lib.ListN.{replicate}
 use Rattle.lists.specs.Order.{atMost, same}
 use Rattle.lists.specs.Select.{keep}
-use Rattle.lists.proofs.Tests.{_∈_, by-test, either, and-true, true-and}
+use Rattle.lists.proofs.Tests.{_∈_, by-test, and-true, true-and}
 use Rattle.lists.proofs.Comparison.{same-true, same-of-path}
-use Rattle.lists.proofs.Members.{NoDup, lawful-decides, in-head, in-tail, in-list, in-moved, in-cons-cases, not-in-nil, in-append-left, in-append-right, in-map, of-map, in-keep, of-keep, of-once, in-once, nodup-once}
+use Rattle.lists.proofs.Members.{NoDup, lawful-decides, in-head, in-tail, in-list, in-moved, in-append-left, in-append-right, in-map, in-keep, of-keep, of-once, in-once, nodup-once}
 use Rattle.patterns.specs.Tree.{Tree, point, merge, compareTree}
 use Rattle.patterns.specs.Component.{Component, compareComponent, validComponent}
 use Rattle.patterns.specs.Generation.{hasParent, parent, leftMerges, rightMerges, candidates, isChild, children}
@@ -39,33 +39,6 @@ pub in-merges : (m : Tree → Tree → Tree) (a : Component) (t u : Tree) (r : C
 in-merges m [] t u r = in-head
 in-merges m (x ∷ []) t u r = in-tail (in-map (x ∷_) (in-merges m [] t u r))
 in-merges m (x ∷ y ∷ a) t u r = in-tail (in-map (x ∷_) (in-merges m (y ∷ a) t u r))
-
--- and every member comes from a split
-pub record Split (m : Tree → Tree → Tree) (c d : Component) : Type 0 where
-  pub before : Component
-  pub this : Tree
-  pub that : Tree
-  pub after : Component
-  pub whole : c ≡ before ++ (this ∷ that ∷ after)
-  pub merged : d ≡ before ++ (m this that ∷ after)
-
-pub of-merges : (m : Tree → Tree → Tree) (c : Component) {d : Component} → d ∈ mergesBy m c → Split m c d
-of-merges m [] k = not-in-nil k
-of-merges m (t ∷ []) k = not-in-nil k
-of-merges m (t ∷ u ∷ c) k =
-    either (in-cons-cases k)
-    (λ e. record { before = []; this = t; that = u; after = c; whole = refl; merged = e })
-    (λ i.
-    let q = of-map (t ∷_) (mergesBy m (u ∷ c)) i in
-    let s = of-merges m (u ∷ c) (q .1) in
-    record {
-      before = t ∷ s .before;
-      this = s .this;
-      that = s .that;
-      after = s .after;
-      whole = ap (λ l. t ∷ l) (s .whole);
-      merged = q .2 ∙ ap (λ l. t ∷ l) (s .merged);
-    })
 
 -- d is a child of c: it is valid, and c is its parent
 pub child-parts : (c d : Component) → isChild c d ≡ true → (validComponent d ≡ true) × (hasParent d ≡ true) × (parent d ≡ c)

@@ -1,23 +1,25 @@
--- The list of the components of n points in generation order holds every valid one exactly once, and begins with the cycle of n points.
+-- The list of the components of n points in generation order holds every valid one exactly once, and begins with the cycle of n points. That what is listed
+-- is valid and stands once holds for any order of the children.
 use mathlib.Core.Path.{_≡_, refl, ap, sym, _∙_}
 use mathlib.Core.Bool.{Bool, true, false, true≢false}
-use mathlib.Core.List.{[], _∷_, _++_}
+use mathlib.Core.List.{List, [], _∷_, _++_, reverse}
 use mathlib.Core.Option.{some}
 use Prim.Native.Nat.{ℕ, zero, suc, _+_, _-_, _≤_, _<_}
 use native.Mathlib.Omega.{arith}
-use lib.ListN.{length, replicate, length-replicate}
+use lib.ListN.{length, length-replicate}
 use Rattle.lists.specs.Order.{atMost}
 use Rattle.lists.specs.Select.{each, first}
 use Rattle.lists.proofs.Tests.{_∈_, by-test, true-and, each-true}
 use Rattle.lists.proofs.Comparison.{atMost-self}
 use Rattle.lists.proofs.Members.{NoDup, not-in-nil, of-replicate}
+use Rattle.lists.proofs.Reversed.{in-reverse, of-reverse, nodup-reverse}
 use Rattle.patterns.specs.Tree.{point, merge, validTree}
 use Rattle.patterns.specs.Component.{Component, points, compareComponent, turn, turns, validComponent}
-use Rattle.patterns.specs.Generation.{hasParent, parent, children, visit, generation}
+use Rattle.patterns.specs.Generation.{hasParent, parent, children, walk, cycle, generation}
 use Rattle.patterns.proofs.Trees.{size-positive, compareComponent-lawful}
 use Rattle.component_theory.proofs.Lemma8.{parent-valid, parent-points, parent-length}
 use Rattle.component_theory.proofs.Children.{child-candidate, children-parent, children-once}
-use Rattle.component_theory.proofs.Traversal.{walk, Ranked, gather-same, walk-root, walk-all, walk-closed, walk-once}
+use Rattle.component_theory.proofs.Traversal.{Ranked, walk-root, walk-all, walk-closed, walk-once}
 
 -- a component has at most as many trees as points
 pub length-points : (c : Component) → length c ≤ points c
@@ -30,52 +32,64 @@ unfolding validComponent
 valid-positive [] v = absurd (true≢false (sym v))
 valid-positive (t ∷ c) v = omega arith
 
+-- the children of every component in some order, each once
+pub record Arranged (kids : Component → List Component) : Type 0 where
+  pub all : (c d : Component) → d ∈ children c → d ∈ kids c
+  pub only : (c d : Component) → d ∈ kids c → d ∈ children c
+  pub once : (c : Component) → NoDup (kids c)
+
+pub children-arranged : Arranged children
+children-arranged = record { all = λ c d i. i; only = λ c d i. i; once = children-once }
+
+pub reverse-arranged : {kids : Component → List Component} → Arranged kids → Arranged (λ c. reverse (kids c))
+reverse-arranged {kids} a = record {
+  all = λ c d i. in-reverse (kids c) (a .all c d i);
+  only = λ c d i. a .only c d (of-reverse (kids c) i);
+  once = λ c. nodup-reverse (a .once c);
+}
+
 -- a child has one tree less than its parent
-pub components-ranked : Ranked children parent length
-components-ranked = record {
-  kid-up = λ c d i. (children-parent c d i) .2;
-  kid-level = λ c d i. let r = children-parent c d i in sym (parent-length d (r .1)) ∙ ap length (r .2);
-  kid-positive = λ c d i. valid-positive d ((children-parent c d i) .0);
-  kids-once = children-once;
+pub arranged-ranked : {kids : Component → List Component} → Arranged kids → Ranked kids parent length
+arranged-ranked a = record {
+  kid-up = λ c d i. (children-parent c d (a .only c d i)) .2;
+  kid-level = λ c d i. let r = children-parent c d (a .only c d i) in sym (parent-length d (r .1)) ∙ ap length (r .2);
+  kid-positive = λ c d i. valid-positive d ((children-parent c d (a .only c d i)) .0);
+  kids-once = a .once;
 }
 
 -- a child has as many points as its parent
 pub child-points : (c d : Component) → d ∈ children c → points d ≡ points c
 child-points c d i = sym (parent-points d) ∙ ap points ((children-parent c d i) .2)
 
-pub visit-is-walk : (j : ℕ) (even : Bool) (c : Component) → visit j even c ≡ walk children j even c
-unfolding visit
-visit-is-walk zero even c = refl
-visit-is-walk (suc j) true c = ap (λ l. c ∷ l) (gather-same (visit j false) (walk children j false) (children c) (λ d i. visit-is-walk j false d))
-visit-is-walk (suc j) false c = ap (λ l. l ++ (c ∷ [])) (gather-same (visit j true) (walk children j true) (children c) (λ d i. visit-is-walk j true d))
-
--- the cycle of n points
-abbrev pub cycleOf : ℕ → Component
-cycleOf n = replicate n point
-
-pub generation-is-walk : (n : ℕ) → generation n ≡ walk children n true (cycleOf n)
+pub generation-is-walk : (n : ℕ) → generation n ≡ walk children n true (cycle n)
 unfolding generation
-generation-is-walk n = visit-is-walk n true (cycleOf n)
+generation-is-walk n = refl
 
-pub cycle-points : (n : ℕ) → points (cycleOf n) ≡ n
+pub cycle-points : (n : ℕ) → points (cycle n) ≡ n
 cycle-points zero = refl
 cycle-points (suc n) = omega (arith, cycle-points n)
 
-pub cycle-no-parent : (n : ℕ) → hasParent (cycleOf n) ≡ false
+pub cycle-no-parent : (n : ℕ) → hasParent (cycle n) ≡ false
 cycle-no-parent zero = refl
 cycle-no-parent (suc n) = cycle-no-parent n
 
+-- the parent of a cycle is the cycle itself
+pub cycle-parent : (n : ℕ) → parent (cycle n) ≡ cycle n
+unfolding parent
+cycle-parent zero = refl
+cycle-parent (suc n) = ap (λ l. point ∷ l) (cycle-parent n)
+
 -- only a cycle has no parent
-pub no-parent-cycle : (c : Component) → hasParent c ≡ false → c ≡ cycleOf (length c)
+pub no-parent-cycle : (c : Component) → hasParent c ≡ false → c ≡ cycle (length c)
 no-parent-cycle [] e = refl
 no-parent-cycle (point ∷ c) e = ap (λ l. point ∷ l) (no-parent-cycle c e)
 no-parent-cycle (merge t u ∷ c) e = absurd (true≢false e)
 
-cycle-turn : (n : ℕ) → turn (cycleOf n) ≡ cycleOf n
+cycle-turn : (n : ℕ) → turn (cycle n) ≡ cycle n
 cycle-turn zero = refl
 cycle-turn (suc n) = pushed n
   where
-    pushed : (n : ℕ) → cycleOf n ++ (point ∷ []) ≡ cycleOf (suc n)
+    pushed : (n : ℕ) → cycle n ++ (point ∷ []) ≡ cycle (suc n)
     pushed zero = refl
     pushed (suc n) = ap (λ l. point ∷ l) (pushed n)
 
@@ -83,35 +97,51 @@ each-turned : (p : Component → Bool) (k : ℕ) (c : Component) → turn c ≡ 
 each-turned p zero c e q = refl
 each-turned p (suc k) c e q = rw (q, e) (each-turned p k c e q)
 
-pub cycle-valid : (n : ℕ) → validComponent (cycleOf (suc n)) ≡ true
+pub cycle-valid : (n : ℕ) → validComponent (cycle (suc n)) ≡ true
 unfolding validComponent validTree
 cycle-valid n =
     true-and
-    (each-true validTree (cycleOf (suc n)) (λ t m. ap validTree (of-replicate (suc n) m)))
-    (each-turned (atMost compareComponent (cycleOf (suc n))) (length (cycleOf (suc n))) (cycleOf (suc n))
-    (cycle-turn (suc n)) (atMost-self compareComponent-lawful (cycleOf (suc n))))
+    (each-true validTree (cycle (suc n)) (λ t m. ap validTree (of-replicate (suc n) m)))
+    (each-turned (atMost compareComponent (cycle (suc n))) (length (cycle (suc n))) (cycle (suc n))
+    (cycle-turn (suc n)) (atMost-self compareComponent-lawful (cycle (suc n))))
 
-pub cycle-listed : (n : ℕ) → 0 < n → cycleOf n ∈ generation n
+pub cycle-listed : (n : ℕ) → 0 < n → cycle n ∈ generation n
 cycle-listed zero h = absurd (omega arith)
-cycle-listed (suc n) h = rw (generation-is-walk (suc n)) (walk-root children n true (cycleOf (suc n)))
+cycle-listed (suc n) h = rw (generation-is-walk (suc n)) (walk-root children n true (cycle (suc n)))
 
 -- a child of what is listed is listed
 pub child-listed : (n : ℕ) (c d : Component) → c ∈ generation n → d ∈ children c → d ∈ generation n
 child-listed n c d m i =
-    let h : length (cycleOf n) ≤ n = omega (arith, length-replicate n point) in
-    rw (generation-is-walk n) (walk-closed components-ranked n true (cycleOf n) c d h (rw (generation-is-walk n) at m) i)
+    let h : length (cycle n) ≤ n = omega (arith, length-replicate n point) in
+    rw (generation-is-walk n) (walk-closed (arranged-ranked children-arranged) n true (cycle n) c d h (rw (generation-is-walk n) at m) i)
+
+-- What holds of the walk from the cycle of n points in any order of the children.
+module _ {kids : Component → List Component} (a : Arranged kids) (even : Bool) where
+  -- what stands there is valid and has n points
+  pub arranged-sound : (n : ℕ) (c : Component) → c ∈ walk kids n even (cycle n) → (validComponent c ≡ true) × (points c ≡ n)
+  arranged-sound zero c m = not-in-nil m
+  arranged-sound (suc n) c m =
+      walk-all kids (λ c. (validComponent c ≡ true) × (points c ≡ suc n))
+      (λ c d p i. let j = a .only c d i in ((children-parent c d j) .0, child-points c d j ∙ p .1))
+      (suc n) even (cycle (suc n))
+      (cycle-valid n, cycle-points (suc n))
+      m
+
+  -- nothing stands there twice
+  pub arranged-once : (n : ℕ) → NoDup (walk kids n even (cycle n))
+  arranged-once n = walk-once (arranged-ranked a) n even (cycle n)
 
 -- what stands in the list is valid and has n points
 pub generation-sound : (n : ℕ) (c : Component) → c ∈ generation n → (validComponent c ≡ true) × (points c ≡ n)
-generation-sound zero c m = not-in-nil (rw (generation-is-walk 0) at m)
-generation-sound (suc n) c m =
-    walk-all children (λ c. (validComponent c ≡ true) × (points c ≡ suc n))
-    (λ c d p i. ((children-parent c d i) .0, child-points c d i ∙ p .1))
-    (suc n) true (cycleOf (suc n))
-    (cycle-valid n, cycle-points (suc n))
-    (rw (generation-is-walk (suc n)) at m)
+unfolding generation
+generation-sound n c m = arranged-sound children-arranged true n c m
 
-module _ (P : Component → Type 0) (root : (n : ℕ) → P (cycleOf (suc n)))
+-- nothing stands in the list twice
+pub generation-once : (n : ℕ) → NoDup (generation n)
+unfolding generation
+generation-once n = arranged-once children-arranged true n
+
+module _ (P : Component → Type 0) (root : (n : ℕ) → P (cycle (suc n)))
     (step : (c : Component) → validComponent c ≡ true → hasParent c ≡ true → P (parent c) → P c) where
   unparented : (c : Component) → validComponent c ≡ true → hasParent c ≡ false → P c
   unparented [] v f = absurd (omega (arith, valid-positive [] v))
@@ -138,11 +168,7 @@ generation-complete =
     (λ n. rw (cycle-points (suc n)) (cycle-listed (suc n) (omega arith)))
     (λ c v t m. child-listed (points c) (parent c) c (rw (parent-points c) at m) (child-candidate c v t))
 
--- nothing stands in the list twice
-pub generation-once : (n : ℕ) → NoDup (generation n)
-generation-once n = rw (generation-is-walk n) (walk-once components-ranked n true (cycleOf n))
-
 -- the cycle of n points comes first
-pub generation-first : (n : ℕ) → first (generation (suc n)) ≡ some (replicate (suc n) point)
+pub generation-first : (n : ℕ) → first (generation (suc n)) ≡ some (cycle (suc n))
 unfolding generation
 generation-first n = refl

@@ -81,11 +81,6 @@ right-place a t u r e =
     let q = parent-before a u t r (t ∷ u ∷ r) p in
     (q .0, turned-ordered t u r (q .1))
 
--- K3: the left and the right merge of a pair are the same exactly where the two are
-pub merges-same : (a : Component) (t u : Tree) (r : Component) → a ++ (merge t u ∷ r) ≡ a ++ (merge u t ∷ r) → t ≡ u
-merges-same [] t u r e = (merge-parts (head-eq-of-cons-eq e)) .0
-merges-same (x ∷ a) t u r e = merges-same a t u r (tail-eq-of-cons-eq e)
-
 -- no rotation of d is less than d
 abbrev pub isLeast : Component → Bool
 isLeast d = each (atMost compareComponent d) (rotations d)

@@ -8,6 +8,6 @@ pub mod Traversal
 pub mod Generation
 pub mod Alternating
 pub mod Paths
-pub mod Neighbours
+pub mod Pieces
+pub mod LocalStep
 pub mod Successor
-pub mod Scan

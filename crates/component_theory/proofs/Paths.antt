@@ -2,24 +2,24 @@
 -- points are listed in the alternating order of their paths.
 use mathlib.Core.Path.{_≡_, refl, ap, ap₂, sym, _∙_}
 use mathlib.Core.Bool.{true, not}
-use mathlib.Core.List.{List, [], _∷_, _++_}
-use Prim.Native.Nat.{ℕ, zero, suc, _-_, Ordering·lt, Ordering·eq, compare}
+use mathlib.Core.List.{[], _∷_, _++_}
+use Prim.Native.Nat.{ℕ, zero, suc, _-_, Ordering·eq, compare}
 use native.Mathlib.Omega.{arith}
 use lib.ListN.{length, length-replicate, length-append}
-use Rattle.lists.specs.Order.{then}
-use Rattle.lists.proofs.Comparison.{Lawful, opposite, by-order, compare-lawful, keys-lawful, then-is-eq, eq-of-compare, compare-self}
-use Rattle.lists.proofs.Lex.{lexBy, lexBy-lawful}
+use Rattle.lists.specs.Order.{then, lexBy}
+use Rattle.lists.proofs.Comparison.{Lawful, by-order, compare-lawful, keys-lawful, then-is-eq, eq-of-compare, compare-self}
+use Rattle.lists.proofs.Lex.{lexBy-lawful}
 use Rattle.lists.proofs.Members.{Decides, lawful-decides}
 use Rattle.lists.proofs.Places.{place-injective}
 use Rattle.lists.proofs.Rising.{Rising}
 use Rattle.patterns.specs.Tree.{point}
 use Rattle.patterns.specs.Component.{Component, points, compareComponent, validComponent}
-use Rattle.patterns.specs.Generation.{hasParent, parent, candidates, isChild, children, generation}
+use Rattle.patterns.specs.Generation.{hasParent, parent, candidates, isChild, children, cycle, generation}
 use Rattle.patterns.specs.System.{generationPlace, compareGenerated}
 use Rattle.patterns.proofs.Trees.{compareComponent-lawful}
 use Rattle.component_theory.proofs.Lemma8.{parent-points, parent-length}
 use Rattle.component_theory.proofs.Children.{children-parent}
-use Rattle.component_theory.proofs.Generation.{cycleOf, cycle-points, length-points, generation-is-walk, generation-sound, generation-complete}
+use Rattle.component_theory.proofs.Generation.{cycle-points, length-points, generation-is-walk, generation-sound, generation-complete}
 use Rattle.lists.proofs.RisingPlaces.{once-keep-rises, rising-change, rising-places}
 use Rattle.component_theory.specs.Path.{key, path-of, path}
 use Rattle.component_theory.proofs.Alternating.{Keyed, compareAlternating, walk-rises}
@@ -34,11 +34,11 @@ parent-path c t =
     let h : points c - length c ≡ suc (points (parent c) - length (parent c)) = omega (arith, parent-points c, parent-length c t, length-points (parent c)) in
     ap (λ k. path-of k c) h
 
-pub cycle-path : (n : ℕ) → path (cycleOf n) ≡ []
+pub cycle-path : (n : ℕ) → path (cycle n) ≡ []
 unfolding path
 cycle-path n =
-    let h : points (cycleOf n) - length (cycleOf n) ≡ 0 = omega (arith, cycle-points n, length-replicate n point) in
-    ap (λ k. path-of k (cycleOf n)) h
+    let h : points (cycle n) - length (cycle n) ≡ 0 = omega (arith, cycle-points n, length-replicate n point) in
+    ap (λ k. path-of k (cycle n)) h
 
 path-of-length : (k : ℕ) (c : Component) → length (path-of k c) ≡ k
 unfolding path-of
@@ -65,7 +65,7 @@ components-keyed = record {
 
 -- the generation list rises by the alternating order of paths
 pub generation-rises : (n : ℕ) → Rising (λ c d. compareAlternating (path c) (path d)) (generation n)
-generation-rises n = rw (generation-is-walk n) (walk-rises components-keyed n true (cycleOf n) (rw (cycle-path n)))
+generation-rises n = rw (generation-is-walk n) (walk-rises components-keyed n true (cycle n) (rw (cycle-path n)))
 
 alternating-lawful : Lawful compareAlternating
 alternating-lawful = lexBy-lawful compare-lawful not true
@@ -89,14 +89,6 @@ generated-equal c d v u e =
     let p = eq-of-compare (points c) (points d) (r .0) in
     let q = eq-of-compare (generationPlace c) (generationPlace d) (r .1) in
     place-injective component-decides (generation-complete c v) (rw (sym p) at (generation-complete d u)) (rw (sym p) at q)
-
--- valid components with equal paths and equal numbers of points are equal
-pub path-injective : (c d : Component) → validComponent c ≡ true → validComponent d ≡ true → points c ≡ points d → path c ≡ path d → c ≡ d
-unfolding compareGenerated
-path-injective c d v u e p =
-    generated-equal c d v u
-    (ap₂ then (ap (compare (points c)) (sym e) ∙ compare-self (points c))
-    (generation-order c d v u e ∙ ap (compareAlternating (path c)) (sym p) ∙ alternating-lawful .self (path c)))
 
 -- Definition 14's order is: by number of points, and then by the alternating order of paths
 pub generated-paths : (c d : Component) → validComponent c ≡ true → validComponent d ≡ true
@@ -128,11 +120,3 @@ place-of c = (points c, generationPlace c)
 pub generated-self : (c : Component) → compareGenerated c c ≡ Ordering·eq
 unfolding compareGenerated place-of
 generated-self c = places-lawful .self (place-of c)
-
-pub generated-turned : (c d : Component) → compareGenerated d c ≡ opposite (compareGenerated c d)
-unfolding compareGenerated place-of
-generated-turned c d = places-lawful .turned (place-of c) (place-of d)
-
-pub generated-chain : (b c d : Component) → compareGenerated b c ≡ Ordering·lt → compareGenerated c d ≡ Ordering·lt → compareGenerated b d ≡ Ordering·lt
-unfolding compareGenerated place-of
-generated-chain b c d = places-lawful .chain (place-of b) (place-of c) (place-of d)

@@ -1,19 +1,16 @@
--- A depth-first walk with alternating output, over any children: it lists every descendant, and none twice.
-use mathlib.Core.Path.{_≡_, refl, ap, ap₂, sym, _∙_}
+-- A depth-first walk with alternating output, over any children: it lists every descendant, and none twice; and reversed it is such a walk again.
+use mathlib.Core.Path.{_≡_, refl, ap, sym, _∙_}
 use mathlib.Core.Logic.{_⊎_, inl, inr}
 use mathlib.Core.Bool.{Bool, true, false, not}
-use mathlib.Core.List.{List, [], _∷_, _++_}
+use mathlib.Core.List.{List, [], _∷_, _++_, reverse, reverse-cons, reverse-append}
 use Prim.Native.Nat.{ℕ, zero, suc, _+_, _≤_, _<_}
 use native.Mathlib.Omega.{arith}
 use Rattle.lists.specs.Select.{gather}
 use Rattle.lists.proofs.Tests.{_∈_, either}
 use Rattle.lists.proofs.Members.{NoDup, one, empty, in-head, in-tail, in-moved, in-single, in-cons-cases, in-append-left, in-append-right, in-append-cases, in-gather, of-gather, not-in-nil, nodup-append, nodup-gather, nodup-single}
-
--- At an even depth (true) c comes before its descendants, at an odd depth after them; the number bounds the depth below c.
-abbrev pub walk : {A : Type 0} → (A → List A) → ℕ → Bool → A → List A
-walk kids zero even c = []
-walk kids (suc j) true c = c ∷ gather (walk kids j false) (kids c)
-walk kids (suc j) false c = gather (walk kids j true) (kids c) ++ (c ∷ [])
+use Rattle.lists.proofs.Gathering.{gather-same}
+use Rattle.lists.proofs.Reversed.{reverse-gather}
+use Rattle.patterns.specs.Generation.{walk}
 
 -- k steps up
 abbrev pub climb : {A : Type 0} → (A → A) → ℕ → A → A
@@ -26,11 +23,6 @@ pub record Ranked {A : Type 0} (kids : A → List A) (up : A → A) (level : A �
   pub kid-level : (c d : A) → d ∈ kids c → suc (level d) ≡ level c
   pub kid-positive : (c d : A) → d ∈ kids c → 0 < level d
   pub kids-once : (c : A) → NoDup (kids c)
-
--- lists gathered by functions that agree on the members
-pub gather-same : {A B : Type 0} (f g : A → List B) (l : List A) → ((x : A) → x ∈ l → f x ≡ g x) → gather f l ≡ gather g l
-gather-same f g [] h = refl
-gather-same f g (x ∷ l) h = ap₂ _++_ (h x in-head) (gather-same f g l (λ y m. h y (in-tail m)))
 
 positive-suc : (n : ℕ) → 0 < n → (j : ℕ) × (n ≡ suc j)
 positive-suc zero h = absurd (omega arith)
@@ -60,6 +52,22 @@ module _ {A : Type 0} (kids : A → List A) where
       either (of-walk j even c m)
       (λ e. rw e p)
       (λ r. walk-all P h j (not even) (r .0) (h c (r .0) p (r .1)) (r .2))
+
+  below-reversed : (j : ℕ) (even : Bool) (c : A) → ((d : A) → reverse (walk kids j even d) ≡ walk (λ d. reverse (kids d)) j (not even) d)
+      → reverse (gather (walk kids j even) (kids c)) ≡ gather (walk (λ d. reverse (kids d)) j (not even)) (reverse (kids c))
+  below-reversed j even c h =
+      reverse-gather (walk kids j even) (kids c)
+      ∙ gather-same (λ d. reverse (walk kids j even d)) (walk (λ d. reverse (kids d)) j (not even)) (reverse (kids c)) (λ d i. h d)
+
+  -- the walk reversed is the walk over the reversed children, with the flag turned
+  pub reverse-walk : (j : ℕ) (even : Bool) (c : A) → reverse (walk kids j even c) ≡ walk (λ d. reverse (kids d)) j (not even) c
+  reverse-walk zero even c = refl
+  reverse-walk (suc j) true c =
+      reverse-cons c (gather (walk kids j false) (kids c))
+      ∙ ap (λ l. l ++ (c ∷ [])) (below-reversed j false c (λ d. reverse-walk j false d))
+  reverse-walk (suc j) false c =
+      reverse-append (gather (walk kids j true) (kids c)) (c ∷ [])
+      ∙ ap (λ l. c ∷ l) (below-reversed j true c (λ d. reverse-walk j true d))
 
 module _ {A : Type 0} {kids : A → List A} {up : A → A} {level : A → ℕ} (w : Ranked kids up level) where
   -- with enough fuel, the children of what is listed are listed

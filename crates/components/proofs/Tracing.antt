@@ -9,12 +9,11 @@ use lib.Dec.{eqb}
 use borrow.Author.Tests.{eq-eqb, ne-eqb, eqb-true, eqb-false}
 use lib.ListN.{length, getD, set, take, drop, replicate, length-drop, length-append, length-replicate, length-set, drop-of-length-le}
 use lib.Seq.{drop-cons, drop-length, getD-set-same, drop-set-lt, drop-append-le, take-at, length-take-le, length-front}
-use Rattle.lists.specs.Order.{then, atMost}
+use Rattle.lists.specs.Order.{then, atMost, lexBy}
 use Rattle.lists.specs.Blocks.{orderingOf}
 use Rattle.lists.specs.declared.Order.{Order}
 use Rattle.lists.proofs.Tests.{by-test}
 use Rattle.lists.proofs.Comparison.{compare-lt, compare-gt, compare-self}
-use Rattle.lists.proofs.Lex.{lexBy}
 use Rattle.patterns.specs.Tree.{point, merge, compareTree}
 use Rattle.patterns.specs.Component.{Component, points, flat, validComponent}
 use Rattle.patterns.specs.Generation.{hasParent, parent}

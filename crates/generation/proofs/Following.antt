@@ -18,13 +18,15 @@ use Rattle.patterns.specs.Component.{Component, points, flat, compareComponent,
 use Rattle.patterns.specs.Generation.{hasParent, parent, children, generation}
 use Rattle.patterns.proofs.Trees.{compareComponent-lawful, length-flat, flat-injective}
 use Rattle.components.specs.Held.{Climbed}
-use Rattle.component_theory.specs.Successor.{evenDepth, firstChild, nextSibling, opening, afterEven, afterOdd, successor}
+use Rattle.component_theory.specs.LocalStep.{evenDepth}
+use Rattle.component_theory.specs.Successor.{firstChild, nextSibling, opening, afterEven, afterOdd, successor}
 use Rattle.components.specs.declared.Climb.{Climb}
 use Rattle.components.specs.declared.Climb.the-variants.{Root as NoParent, Key}
 use Rattle.component_theory.proofs.Lemma8.{parent-valid, parent-points}
 use Rattle.component_theory.proofs.Children.{in-candidates, child-candidate, children-parent}
 use Rattle.component_theory.specs.Path.{key}
-use Rattle.component_theory.proofs.ChildPlaces.{childFrom, nextSibling-place, length-candidates}
+use Rattle.component_theory.specs.ChildPlaces.{childFrom}
+use Rattle.component_theory.proofs.ChildPlaces.{nextSibling-place, length-candidates}
 use Rattle.component_theory.proofs.Generation.{length-points, valid-positive}
 use Rattle.component_theory.proofs.Successor.{successor-is}
 use Rattle.generation.specs.Step.{Node, Gave, Beside}

@@ -12,7 +12,8 @@ use Rattle.patterns.specs.Tree.{Tree, point, merge}
 use Rattle.patterns.specs.Component.{Component, flat, validComponent}
 use Rattle.patterns.proofs.Trees.{flat-injective}
 use Rattle.components.specs.Held.{leadingPoints}
-use Rattle.component_theory.proofs.ChildPlaces.{childAt, childFrom, childFrom-step, childFrom-end, childFrom-lefts, childFrom-past, length-candidates}
+use Rattle.component_theory.specs.ChildPlaces.{childAt, childFrom}
+use Rattle.component_theory.proofs.ChildPlaces.{childFrom-step, childFrom-end, childFrom-lefts, childFrom-past, length-candidates}
 use Rattle.component_theory.proofs.Generation.{valid-positive}
 use Rattle.generation.specs.Step.{Node, Pair, Pairs, Gave, Passed}
 

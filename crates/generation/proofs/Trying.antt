@@ -13,7 +13,8 @@ use Rattle.patterns.specs.Component.{Component, flat}
 use Rattle.patterns.proofs.Trees.{flat-injective}
 use Rattle.components.specs.Held.{lastStart}
 use Rattle.component_theory.proofs.Keys.{isLeast}
-use Rattle.component_theory.proofs.ChildPlaces.{childAt, childAt-left, childAt-right}
+use Rattle.component_theory.specs.ChildPlaces.{childAt}
+use Rattle.component_theory.proofs.ChildPlaces.{childAt-left, childAt-right}
 use Rattle.generation.specs.Step.{Pair, Gave}
 use Rattle.generation.proofs.Merging.{that-size, lastStart-within, this-stretch, that-stretch, last-stretch, last-branch-atMost}
 

@@ -11,7 +11,7 @@ use Rattle.patterns.specs.Component.{Component, flat, validComponent}
 use Rattle.patterns.specs.Generation.{hasParent, parent}
 use Rattle.components.specs.Held.{leadingPoints}
 use Rattle.component_theory.specs.Successor.{nextSibling}
-use Rattle.component_theory.proofs.ChildPlaces.{childFrom}
+use Rattle.component_theory.specs.ChildPlaces.{childFrom}
 use Rattle.generation.specs.declared.Sibling.{Sibling}
 use Rattle.generation.specs.declared.Sibling.the-variants.{Root, Last, Next}
 

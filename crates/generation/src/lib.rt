@@ -18,7 +18,7 @@ ghost use Rattle.lists.specs.Select.{first};
 ghost use Rattle.patterns.specs.Tree.{Tree, merge};
 ghost use Rattle.patterns.specs.Component.{Component, flat};
 ghost use Rattle.component_theory.specs.Successor.{firstChild, opening as openingOf, afterEven, afterOdd, successor as successorOf};
-ghost use Rattle.component_theory.proofs.ChildPlaces.{childAt, childFrom};
+ghost use Rattle.component_theory.specs.ChildPlaces.{childAt, childFrom};
 ghost use Rattle.generation.specs.Step.{Node, Room, behind, Pair, Pairs, Gave, Passed, Beside};
 
 // Beside a component: it has no parent, it is its parent's last child, or it has a next sibling.

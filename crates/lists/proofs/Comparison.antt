@@ -1,13 +1,13 @@
 -- Comparisons that are linear orders: their laws, the comparison of numbers, comparing by a key, and comparing by a key first.
 use mathlib.Core.Path.{_≡_, refl, ap, ap₂, sym, _∙_}
 use mathlib.Core.Logic.{_⊎_, inl, inr}
-use mathlib.Core.Bool.{Bool, true, false, not, true≢false}
-use Prim.Native.Nat.{ℕ, zero, suc, _≤_, _<_, compare, Ordering, Ordering·lt, Ordering·eq, Ordering·gt}
+use mathlib.Core.Bool.{true, false, true≢false}
+use Prim.Native.Nat.{ℕ, _<_, compare, Ordering, Ordering·lt, Ordering·eq, Ordering·gt}
 use native.Mathlib.Omega.{arith}
-use lib.Dec.{isLe, isEq, leb, eqb}
-use borrow.Author.Tests.{le-leb, lt-leb, leb-true, leb-false, eq-eqb, ne-eqb, eqb-true, eqb-false}
+use lib.Dec.{isLe, isEq, leb}
+use borrow.Author.Tests.{lt-leb, leb-true, leb-false, eq-eqb, eqb-true, eqb-false}
 use Rattle.lists.specs.Order.{then, atMost, same}
-use Rattle.lists.proofs.Tests.{by-test, no-both, either, is-false, is-true}
+use Rattle.lists.proofs.Tests.{by-test, no-both, either}
 
 -- the answer with the two sides exchanged
 abbrev pub opposite : Ordering → Ordering
@@ -37,11 +37,6 @@ lt-not-gt e f = absurd (true≢false (sym (ap isLe e) ∙ ap isLe f))
 
 pub eq-not-gt {ℓ} : {P : Type ℓ} {o : Ordering} → o ≡ Ordering·eq → o ≡ Ordering·gt → P
 eq-not-gt e f = absurd (true≢false (sym (ap isLe e) ∙ ap isLe f))
-
-pub opposite-twice : (o : Ordering) → opposite (opposite o) ≡ o
-opposite-twice Ordering·lt = refl
-opposite-twice Ordering·eq = refl
-opposite-twice Ordering·gt = refl
 
 pub opposite-then : (o p : Ordering) → opposite (then o p) ≡ then (opposite o) (opposite p)
 opposite-then Ordering·lt p = refl
@@ -94,9 +89,6 @@ module _ {A : Type 0} {c : A → A → Ordering} (w : Lawful c) where
   pub lt-of-gt : (x y : A) → c x y ≡ Ordering·gt → c y x ≡ Ordering·lt
   lt-of-gt x y e = w .turned x y ∙ ap opposite e
 
-  pub eq-of-eq : (x y : A) → c x y ≡ Ordering·eq → c y x ≡ Ordering·eq
-  eq-of-eq x y e = w .turned x y ∙ ap opposite e
-
   -- equal things compare equal
   pub eq-of-path : {x y : A} → x ≡ y → c x y ≡ Ordering·eq
   eq-of-path {x} {y} e = ap (c x) (sym e) ∙ w .self x
@@ -107,14 +99,6 @@ module _ {A : Type 0} {c : A → A → Ordering} (w : Lawful c) where
 
   pub lt-asymmetric {ℓ} : {P : Type ℓ} (x y : A) → c x y ≡ Ordering·lt → c y x ≡ Ordering·lt → P
   lt-asymmetric x y e f = lt-not-gt f (gt-of-lt x y e)
-
-  -- greater is transitive
-  pub gt-chain : (x y z : A) → c x y ≡ Ordering·gt → c y z ≡ Ordering·gt → c x z ≡ Ordering·gt
-  gt-chain x y z e f = gt-of-lt z x (w .chain z y x (lt-of-gt y z f) (lt-of-gt x y e))
-
-  -- trichotomy, with equality as equality
-  pub trichotomy {ℓ} : {P : Type ℓ} (x y : A) → (c x y ≡ Ordering·lt → P) → (x ≡ y → P) → (c y x ≡ Ordering·lt → P) → P
-  trichotomy x y f g h = by-order (c x y) f (λ e. g (w .equal x y e)) (λ e. h (lt-of-gt x y e))
 
   -- x is at most y if it is less
   pub lt-atMost : (x y : A) → c x y ≡ Ordering·lt → atMost c x y ≡ true
@@ -136,9 +120,6 @@ module _ {A : Type 0} {c : A → A → Ordering} (w : Lawful c) where
 
   pub lt-not-atMost : (x y : A) → c y x ≡ Ordering·lt → atMost c x y ≡ false
   lt-not-atMost x y e = ap isLe (gt-of-lt y x e)
-
-  pub atMost-total : (x y : A) → (atMost c x y ≡ true) ⊎ (atMost c y x ≡ true)
-  atMost-total x y = by-test (atMost c x y) (λ e. inl e) (λ e. inr (lt-atMost y x (not-atMost x y e)))
 
   -- what is not at most y has y at most it
   pub atMost-turned : (x y : A) → atMost c x y ≡ false → atMost c y x ≡ true
@@ -165,16 +146,6 @@ module _ {A : Type 0} {c : A → A → Ordering} (w : Lawful c) where
 
   pub same-of-path : {x y : A} → x ≡ y → same c x y ≡ true
   same-of-path e = ap isEq (eq-of-path e)
-
-  pub same-false : (x y : A) → same c x y ≡ false → x ≡ y → ⊥
-  same-false x y e p = no-both (same-of-path p) e
-
-  pub same-of-apart : (x y : A) → (x ≡ y → ⊥) → same c x y ≡ false
-  same-of-apart x y h = is-false (same c x y) (λ t. h (same-true x y t))
-
-  -- equality is decided
-  pub by-same {ℓ} : {P : Type ℓ} (x y : A) → (x ≡ y → P) → ((x ≡ y → ⊥) → P) → P
-  by-same x y f g = by-test (same c x y) (λ t. f (same-true x y t)) (λ t. g (same-false x y t))
 
 -- Numbers.
 pub compare-self : (a : ℕ) → compare a a ≡ Ordering·eq

@@ -1,14 +1,13 @@
--- What follows an entry of a list: in joined, mapped, gathered and kept lists.
+-- What follows an entry of a list: in joined, mapped and gathered lists.
 use mathlib.Core.Path.{_≡_, refl, ap, sym, _∙_}
 use mathlib.Core.List.{List, [], _∷_, _++_, map, map-append, append-assoc, head-eq-of-cons-eq, tail-eq-of-cons-eq, Memᴰ·append-right}
-use mathlib.Core.Bool.{Bool, true}
 use mathlib.Core.Option.{Option, none, some, Option·map, Option·some-injective, Option·none-ne-some}
 use Prim.Native.Nat.{Ordering}
 use Rattle.lists.specs.Order.{same}
-use Rattle.lists.specs.Select.{keep, gather, first, next, from}
+use Rattle.lists.specs.Select.{gather, first, next, from}
 pub use Rattle.lists.specs.Select.{otherwise}
 use Rattle.lists.proofs.Tests.{_∈_, by-test}
-use Rattle.lists.proofs.Members.{Decides, NoDup, in-head, in-tail, in-list, in-moved, in-middle, nodup-head, nodup-tail, gather-append, keep-append}
+use Rattle.lists.proofs.Members.{Decides, NoDup, in-head, in-tail, in-list, in-moved, in-middle, nodup-head, nodup-tail, gather-append}
 use Rattle.lists.proofs.Places.{in-split, first-split, next-split}
 
 -- x stands in l, and what follows it is r: an entry, or nothing
@@ -48,21 +47,15 @@ module _ {A : Type 0} where
   pub in-within : {x : A} {l : List A} → x ∈ l → (r : Option A) × Within x l r
   in-within m = let s = in-split m in (first (s .1), record { before = s .0; after = s .1; cut = s .2; follows = refl })
 
-  -- nothing follows x exactly if the list ends in x
+  -- where nothing follows x, the list ends in x
   pub within-last : {x : A} {l : List A} → Within x l none → (a : List A) × (l ≡ a ++ (x ∷ []))
   within-last {x} i = (i .before, i .cut ∙ ap (λ m. i .before ++ (x ∷ m)) (first-none (i .after) (sym (i .follows))))
 
-  pub last-within : (a : List A) (x : A) → Within x (a ++ (x ∷ [])) none
-  last-within a x = record { before = a; after = []; cut = refl; follows = refl }
-
-  -- y follows x exactly if they stand side by side
+  -- where y follows x, they stand side by side
   pub within-some : {x y : A} {l : List A} → Within x l (some y) → (a : List A) × (b : List A) × (l ≡ a ++ (x ∷ y ∷ b))
   within-some {x} i =
       let s = first-some (i .after) (sym (i .follows)) in
       (i .before, s .0, i .cut ∙ ap (λ m. i .before ++ (x ∷ m)) (s .1))
-
-  pub some-within : (a : List A) (x y : A) (b : List A) → Within x (a ++ (x ∷ y ∷ b)) (some y)
-  some-within a x y b = record { before = a; after = y ∷ b; cut = refl; follows = refl }
 
   -- what follows is a member
   pub within-some-in : {x y : A} {l : List A} → Within x l (some y) → y ∈ l
@@ -85,28 +78,6 @@ module _ {A : Type 0} where
         after = i .after;
         cut = ap (λ t. m ++ t) (i .cut) ∙ sym (append-assoc m (i .before) (x ∷ i .after));
         follows = i .follows;
-      }
-
-  -- kept together with what follows
-  pub within-keep : (p : A → Bool) {x y : A} {l : List A} → p x ≡ true → p y ≡ true → Within x l (some y) → Within x (keep p l) (some y)
-  within-keep p {x} {y} {l} e f i =
-      let s = within-some i in
-      record {
-        before = keep p (s .0);
-        after = y ∷ keep p (s .1);
-        cut = ap (keep p) (s .2) ∙ keep-append p (s .0) (x ∷ y ∷ s .1) ∙ rw (e, f);
-        follows = refl;
-      }
-
-  -- nothing follows what was last
-  pub within-keep-last : (p : A → Bool) {x : A} {l : List A} → p x ≡ true → Within x l none → Within x (keep p l) none
-  within-keep-last p {x} e i =
-      let s = within-last i in
-      record {
-        before = keep p (s .0);
-        after = [];
-        cut = ap (keep p) (s .1) ∙ keep-append p (s .0) (x ∷ []) ∙ rw e;
-        follows = refl;
       }
 
   -- in the list from an entry on, things follow as in the whole

@@ -1,25 +1,14 @@
 -- Lexicographic comparisons of lists: a linear order if the comparison of the entries is one, and how it computes.
 -- `lexBy` is the general one: a flag says whether a proper beginning comes first or last, and the flag may change from entry to entry.
 use mathlib.Core.Path.{_≡_, refl, ap, ap₂, sym, _∙_}
-use mathlib.Core.Logic.{_⊎_, inl, inr}
-use mathlib.Core.Bool.{Bool, true, false, not, cond, true≢false}
+use mathlib.Core.Bool.{Bool, true, false, cond}
 use mathlib.Core.List.{List, [], _∷_, _++_, map}
-use Prim.Native.Nat.{ℕ, zero, suc, compare, Ordering, Ordering·lt, Ordering·eq, Ordering·gt}
+use Prim.Native.Nat.{compare, Ordering, Ordering·lt, Ordering·eq, Ordering·gt}
 use native.Mathlib.Omega.{arith}
 use lib.ListN.{length}
-use Rattle.lists.specs.Order.{then, lex}
-use Rattle.lists.proofs.Tests.{by-test, either}
-use Rattle.lists.proofs.Comparison.{Lawful, opposite, by-order, compare-lawful, then-is-eq, then-is-lt, then-assoc, lt-not-eq, lt-not-gt, eq-not-gt, opposite-then}
-
--- Lexicographic: the first difference decides. Where there is none, the shorter list comes first if the flag says true, and last if it says false.
--- `next` gives the flag of the lists without their first entries.
-abbrev pub lexBy : {A : Type 0} → (A → A → Ordering) → (Bool → Bool) → Bool → List A → List A → Ordering
-lexBy c next e [] [] = Ordering·eq
-lexBy c next e [] (y ∷ m) = cond e Ordering·lt Ordering·gt
-lexBy c next e (x ∷ l) [] = cond e Ordering·gt Ordering·lt
-lexBy c next e (x ∷ l) (y ∷ m) =
-    let rest = lexBy c next (next e) l m in
-    then (c x y) rest
+use Rattle.lists.specs.Order.{then, lex, lexBy}
+use Rattle.lists.proofs.Tests.{either}
+use Rattle.lists.proofs.Comparison.{Lawful, opposite, compare-lawful, then-is-eq, then-is-lt, then-assoc, lt-not-eq, lt-not-gt, eq-not-gt, opposite-then}
 
 -- the answers of the two flags are opposite
 flag-turned : (e : Bool) → cond e Ordering·gt Ordering·lt ≡ opposite (cond e Ordering·lt Ordering·gt)
@@ -125,15 +114,6 @@ module _ {A : Type 0} {c : A → A → Ordering} (w : Lawful c) where
   pub lex-strip : (p l m : List A) → lex c (p ++ l) (p ++ m) ≡ lex c l m
   lex-strip [] l m = refl
   lex-strip (x ∷ p) l m = rw (w .self x) (lex-strip p l m)
-
-  -- a proper beginning comes first
-  pub lex-prefix : (l : List A) (x : A) (m : List A) → lex c l (l ++ (x ∷ m)) ≡ Ordering·lt
-  lex-prefix [] x m = refl
-  lex-prefix (y ∷ l) x m = rw (w .self y) (lex-prefix l x m)
-
-  -- the first difference decides: after a common beginning the smaller entry comes first
-  pub lex-first-lt : (p : List A) (x y : A) (l m : List A) → c x y ≡ Ordering·lt → lex c (p ++ (x ∷ l)) (p ++ (y ∷ m)) ≡ Ordering·lt
-  lex-first-lt p x y l m e = lex-strip p (x ∷ l) (y ∷ m) ∙ lex-cons-lt c x y l m e
 
 -- the lexicographic comparison of lists of numbers
 pub lex-compare-lawful : Lawful (lex compare)

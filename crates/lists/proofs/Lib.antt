@@ -13,6 +13,7 @@ pub mod Pigeon
 pub mod Passing
 pub mod RisingPlaces
 pub mod Gathering
+pub mod Reversed
 pub mod Neighbours
 pub mod Filled
 pub mod Necklace

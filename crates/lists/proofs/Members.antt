@@ -93,10 +93,6 @@ module _ {A : Type 0} where
   of-replicate zero m = not-in-nil m
   of-replicate (suc n) m = either (in-cons-cases m) (λ e. e) (λ k. of-replicate n k)
 
-  pub in-replicate : (n : ℕ) {a : A} → 0 < n → a ∈ replicate n a
-  in-replicate zero h = absurd (omega arith)
-  in-replicate (suc n) h = in-head
-
   pub of-once : (c : A → A → Ordering) (l : List A) {x : A} → x ∈ once c l → x ∈ l
   of-once c [] m = m
   of-once c (y ∷ l) m =
@@ -156,10 +152,6 @@ module _ {A : Type 0} where
   nodup-middle {x} l m d k =
       either (in-append-cases l k) (λ i. nodup-apart l d i in-head) (λ i. nodup-head (nodup-right l (x ∷ m) d) i)
 
-  pub nodup-without : (l : List A) (x : A) (m : List A) → NoDup (l ++ (x ∷ m)) → NoDup (l ++ m)
-  nodup-without l x m d =
-      nodup-append (nodup-left l (x ∷ m) d) (nodup-tail (nodup-right l (x ∷ m) d)) (λ y i j. nodup-apart l d i (in-tail j))
-
   pub nodup-keep : (p : A → Bool) {l : List A} → NoDup l → NoDup (keep p l)
   nodup-keep p empty = empty
   nodup-keep p (one {x = x} {l = l} n d) =
@@ -174,15 +166,6 @@ module _ {A : Type 0} where
       one
       (λ k. no-both (w .self x) (not-of-true (same c x x) ((of-keep (λ y. not (same c x y)) (once c l) k) .1)))
       (nodup-keep (λ y. not (same c x y)) (nodup-once w l))
-
-  -- and changes nothing where there is none
-  pub once-of-nodup : {c : A → A → Ordering} → Decides c → {l : List A} → NoDup l → once c l ≡ l
-  once-of-nodup w empty = refl
-  once-of-nodup {c} w (one {x = x} {l = l} n d) =
-      rw (once-of-nodup w d)
-      (ap (λ r. x ∷ r)
-      (keep-all (λ y. not (same c x y)) l
-      (λ y m. by-test (same c x y) (λ t. absurd (n (in-moved (sym (w .sound x y t)) m))) (λ t. ap not t))))
 
 -- the comparison of numbers
 pub compare-decides : Decides compare

@@ -9,7 +9,7 @@ use borrow.Author.Tests.{eq-eqb, ne-eqb, eqb-true}
 use lib.ListN.{length, getD, length-append}
 use lib.Seq.{getD-append-seam}
 use Rattle.lists.specs.Order.{same}
-use Rattle.lists.specs.Select.{keep, gather, range, some-of, place, once, first, next}
+use Rattle.lists.specs.Select.{keep, gather, range, some-of, place, newAt, once, first, next}
 use Rattle.lists.proofs.Tests.{_∈_, by-test, no-both, and-true, is-false, some-append, some-member, some-true}
 use Rattle.lists.proofs.Members.{Decides, in-head, in-tail, in-moved, keep-all, of-keep, of-once, of-gather, of-range, gather-append, in-single, not-in-nil}
 use Rattle.lists.proofs.Places.{first-split, place-split, place-index, next-split, range-append}
@@ -37,10 +37,6 @@ module _ {A : Type 0} where
       (λ t. rw (h x in-head, t) rest)
 
 module _ {A : Type 0} {c : A → A → Ordering} (w : Decides c) (p : A → Bool) (d : A) where
-  -- the entry at place k, if it passes and stands nowhere before
-  unfoldable pub newAt : List A → ℕ → List A
-  newAt l k = cond (p (getD l k d) && eqb (place c (getD l k d) l) k) (getD l k d ∷ []) []
-
   -- what stands in a has its place in a
   place-within : (a b : List A) {x : A} → x ∈ a → place c x (a ++ b) < length a
   place-within a b {x} m =
@@ -66,7 +62,7 @@ module _ {A : Type 0} {c : A → A → Ordering} (w : Decides c) (p : A → Bool
       (λ t. by-test (same c x y) (λ u. rw (t, sym (turned x y), u)) (λ u. rw (t, sym (turned x y), u)))
 
   -- whether the entry after a is new
-  new-here : (a : List A) (x : A) (l : List A) → newAt (a ++ (x ∷ l)) (length a) ≡ cond (p x && fresh a x) (x ∷ []) []
+  new-here : (a : List A) (x : A) (l : List A) → newAt c p d (a ++ (x ∷ l)) (length a) ≡ cond (p x && fresh a x) (x ∷ []) []
   unfolding newAt
   new-here a x l =
       rw (getD-append-seam a x l d)
@@ -98,20 +94,20 @@ module _ {A : Type 0} {c : A → A → Ordering} (w : Decides c) (p : A → Bool
       let n = is-false (same c x y) (λ u. no-both q (sym (ap p (w .sound x y u)) ∙ t)) in
       sym (fresh-snoc a x y ∙ ap (λ b. not b && fresh a y) n))))
 
-  once-from : (a l : List A) → keep (fresh a) (once c (keep p l)) ≡ gather (newAt (a ++ l)) (range (length a) (length l))
+  once-from : (a l : List A) → keep (fresh a) (once c (keep p l)) ≡ gather (newAt c p d (a ++ l)) (range (length a) (length l))
   once-from a [] = refl
   once-from a (x ∷ l) =
       let e : length (a ++ (x ∷ [])) ≡ suc (length a) = omega (arith, length-append a (x ∷ [])) in
       once-here a x l
       ∙ ap₂ _++_ (sym (new-here a x l))
-      (once-from (a ++ (x ∷ [])) l ∙ ap₂ (λ k n. gather (newAt k) (range n (length l))) (append-assoc a (x ∷ []) l) e)
+      (once-from (a ++ (x ∷ [])) l ∙ ap₂ (λ k n. gather (newAt c p d k) (range n (length l))) (append-assoc a (x ∷ []) l) e)
 
   -- the entries that pass, each once, are those that are new at their places
-  pub once-keep : (l : List A) → once c (keep p l) ≡ gather (newAt l) (range 0 (length l))
+  pub once-keep : (l : List A) → once c (keep p l) ≡ gather (newAt c p d l) (range 0 (length l))
   once-keep l = sym (keep-all (fresh []) (once c (keep p l)) (λ x m. refl)) ∙ once-from [] l
 
   -- what is new at k first stands there and passes
-  pub of-newAt : (l : List A) (k : ℕ) {x : A} → x ∈ newAt l k → (place c x l ≡ k) × (p x ≡ true) × (getD l k d ≡ x)
+  pub of-newAt : (l : List A) (k : ℕ) {x : A} → x ∈ newAt c p d l k → (place c x l ≡ k) × (p x ≡ true) × (getD l k d ≡ x)
   unfolding newAt
   of-newAt l k {x} m =
       let y = getD l k d in
@@ -122,7 +118,7 @@ module _ {A : Type 0} {c : A → A → Ordering} (w : Decides c) (p : A → Bool
       (ap (λ z. place c z l) q ∙ eqb-true (place c y l) k (h .1), ap p q ∙ h .0, sym q))
       (λ t. not-in-nil (rw t at m))
 
-  pub newAt-place : {x : A} {l : List A} → x ∈ l → p x ≡ true → newAt l (place c x l) ≡ x ∷ []
+  pub newAt-place : {x : A} {l : List A} → x ∈ l → p x ≡ true → newAt c p d l (place c x l) ≡ x ∷ []
   unfolding newAt
   newAt-place {x} {l} m e =
       let q = (place-index w d m) .1 in
@@ -130,23 +126,23 @@ module _ {A : Type 0} {c : A → A → Ordering} (w : Decides c) (p : A → Bool
 
   -- what follows x: the first that is new at a later place
   pub once-next : {x : A} {l : List A} → x ∈ l → p x ≡ true
-      → next c x (once c (keep p l)) ≡ first (gather (newAt l) (range (suc (place c x l)) (length l - suc (place c x l))))
+      → next c x (once c (keep p l)) ≡ first (gather (newAt c p d l) (range (suc (place c x l)) (length l - suc (place c x l))))
   once-next {x} {l} m e =
       let k = place c x l in
       let h = (place-index w d m) .0 in
       let N : length l ≡ k + suc (length l - suc k) = omega arith in
       let Z : 0 + k ≡ k = omega arith in
-      let G = gather (newAt l) (range (suc k) (length l - suc k)) in
-      let cut : once c (keep p l) ≡ gather (newAt l) (range 0 k) ++ (x ∷ G) =
-      once-keep l ∙ ap (λ n. gather (newAt l) (range 0 n)) N
-      ∙ ap (gather (newAt l)) (range-append 0 k (suc (length l - suc k)))
-      ∙ gather-append (newAt l) (range 0 k) (range (0 + k) (suc (length l - suc k)))
-      ∙ ap (λ n. gather (newAt l) (range 0 k) ++ gather (newAt l) (range n (suc (length l - suc k)))) Z
-      ∙ ap (λ b. gather (newAt l) (range 0 k) ++ (b ++ G)) (newAt-place m e) in
+      let G = gather (newAt c p d l) (range (suc k) (length l - suc k)) in
+      let cut : once c (keep p l) ≡ gather (newAt c p d l) (range 0 k) ++ (x ∷ G) =
+      once-keep l ∙ ap (λ n. gather (newAt c p d l) (range 0 n)) N
+      ∙ ap (gather (newAt c p d l)) (range-append 0 k (suc (length l - suc k)))
+      ∙ gather-append (newAt c p d l) (range 0 k) (range (0 + k) (suc (length l - suc k)))
+      ∙ ap (λ n. gather (newAt c p d l) (range 0 k) ++ gather (newAt c p d l) (range n (suc (length l - suc k)))) Z
+      ∙ ap (λ b. gather (newAt c p d l) (range 0 k) ++ (b ++ G)) (newAt-place m e) in
       ap (next c x) cut
-      ∙ next-split w (gather (newAt l) (range 0 k)) x G
+      ∙ next-split w (gather (newAt c p d l) (range 0 k)) x G
       (λ i.
-      let r = of-gather (newAt l) (range 0 k) i in
+      let r = of-gather (newAt c p d l) (range 0 k) i in
       let b = of-range 0 k (r .1) in
       let q = (of-newAt l (r .0) (r .2)) .0 in
       omega (arith, b .1))

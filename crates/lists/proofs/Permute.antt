@@ -1,16 +1,15 @@
 -- Totals over a list, and permutations: two lists hold the same entries, each as often, if every weight has the same total over both.
 use mathlib.Core.Path.{_≡_, refl, ap, ap₂, sym, _∙_}
-use mathlib.Core.Logic.{_⊎_, inl, inr}
-use mathlib.Core.Bool.{Bool, true, false, not, cond}
-use mathlib.Core.List.{List, [], _∷_, _++_, map, List·Memᴰ, List·Memᴰ·head, List·Memᴰ·tail, List·Memᴰ·eq-of-singleton, Memᴰ·cast}
-use Prim.Native.Nat.{ℕ, zero, suc, _+_, _*_, _≤_, _<_, Ordering}
+use mathlib.Core.Bool.{Bool, true, cond}
+use mathlib.Core.List.{List, [], _∷_, _++_, map, List·Memᴰ·head, List·Memᴰ·tail, Memᴰ·cast}
+use Prim.Native.Nat.{ℕ, _+_, _≤_, _<_, Ordering}
 use native.Mathlib.Omega.{arith}
 use lib.Dec.{leb}
 use borrow.Author.Tests.{leb-true, leb-false}
 use lib.ListN.{length}
 use Rattle.lists.specs.Order.{same}
-use Rattle.lists.specs.Select.{keep, each, some-of, gather, total}
-use Rattle.lists.proofs.Tests.{by-test, no-both, is-true, same-tests, each-cons, each-head, each-tail, _∈_}
+use Rattle.lists.specs.Select.{keep, each, gather, total}
+use Rattle.lists.proofs.Tests.{by-test, same-tests, each-cons, each-head, each-tail, _∈_}
 use Rattle.lists.proofs.Comparison.{Lawful, same-true, same-self}
 
 module _ {A : Type 0} where
@@ -53,10 +52,6 @@ module _ {A : Type 0} where
       by-test (p x)
       (λ e. rw e (omega (arith, total-keep g p l)))
       (λ e. rw e (omega (arith, total-keep g p l)))
-
-  -- a total of zeros: a member weighs nothing
-  pub total-none : (g : A → ℕ) {l : List A} {x : A} → total g l ≡ 0 → x ∈ l → g x ≡ 0
-  total-none g e m = omega (arith, member-total g m)
 
   -- a total that is not zero has a member that weighs something
   pub total-some : (g : A → ℕ) (l : List A) → 0 < total g l → (x : A) × (x ∈ l) × (0 < g x)
@@ -110,40 +105,12 @@ module _ {A : Type 0} where
   pub perm-append-comm : (l m : List A) → Perm (l ++ m) (m ++ l)
   perm-append-comm l m = record { totals = λ g. omega (arith, total-append g l m, total-append g m l) }
 
-  -- a common beginning may be left out
-  pub perm-strip : (p : List A) {l m : List A} → Perm (p ++ l) (p ++ m) → Perm l m
-  perm-strip p {l} {m} q = record { totals = λ g. omega (arith, total-append g p l, total-append g p m, q .totals g) }
-
-  -- an entry may be moved to the front
-  pub perm-middle : (a : List A) (x : A) (b : List A) → Perm (a ++ (x ∷ b)) (x ∷ (a ++ b))
-  perm-middle a x b = record { totals = λ g. omega (arith, total-append g a (x ∷ b), total-append g a b) }
-
   pub perm-length : {l m : List A} → Perm l m → length l ≡ length m
   perm-length {l} {m} p = omega (arith, total-one l, total-one m, p .totals (λ x. 1))
-
-  -- only the empty list is a permutation of the empty list
-  pub perm-nil : (l : List A) → Perm l [] → l ≡ []
-  perm-nil [] p = refl
-  perm-nil (x ∷ l) p = absurd (omega (arith, perm-length p))
 
   -- the entries that pass are permuted
   pub perm-keep : (p : A → Bool) {l m : List A} → Perm l m → Perm (keep p l) (keep p m)
   perm-keep p {l} {m} q = record { totals = λ g. total-keep g p l ∙ q .totals (λ x. cond (p x) (g x) 0) ∙ sym (total-keep g p m) }
-
-  -- those that pass and those that do not are all
-  pub perm-keep-both : (p : A → Bool) (l : List A) → Perm (keep p l ++ keep (λ x. not (p x)) l) l
-  perm-keep-both p [] = perm-refl
-  perm-keep-both p (x ∷ l) =
-      by-test (p x)
-      (λ e. rw e (perm-cons x (perm-keep-both p l)))
-      (λ e. rw e (perm-trans (perm-middle (keep p l) x (keep (λ y. not (p y)) l)) (perm-cons x (perm-keep-both p l))))
-
-  -- a member may be taken out
-  pub perm-out : {x : A} {l : List A} → x ∈ l → (r : List A) × Perm l (x ∷ r)
-  perm-out (List·Memᴰ·head {x = y} {xs = l} q) = (l, perm-path (ap (λ t. t ∷ l) (sym q)))
-  perm-out {x} (List·Memᴰ·tail {x = y} m) =
-      let r = perm-out m in
-      (y ∷ r .0, perm-trans (perm-cons y (r .1)) (perm-swap y x (r .0)))
 
   -- `each` as a total: no entry fails
   fails : (A → Bool) → A → ℕ
@@ -179,12 +146,6 @@ module _ {A : Type 0} where
         by-test (same c x (r .0))
         (λ e. Memᴰ·cast (same-true w x (r .0) e) (r .1))
         (λ e. let k = rw e at (r .2) in absurd (omega arith))
-
-    -- only a list of one entry is a permutation of a list of one entry
-    pub perm-one : (l : List A) (x : A) → Perm l (x ∷ []) → l ≡ x ∷ []
-    perm-one [] x p = absurd (omega (arith, perm-length p))
-    perm-one (y ∷ []) x p = ap (λ t. t ∷ []) (List·Memᴰ·eq-of-singleton (perm-member p (List·Memᴰ·head refl)))
-    perm-one (y ∷ z ∷ l) x p = absurd (omega (arith, perm-length p))
 
 pub perm-map : {A B : Type 0} (f : A → B) {l m : List A} → Perm l m → Perm (map f l) (map f m)
 perm-map f {l} {m} p = record { totals = λ g. total-map g f l ∙ p .totals (λ x. g (f x)) ∙ sym (total-map g f m) }

@@ -1,24 +1,14 @@
--- The pigeonhole principle: a list without repetition inside another is no longer than it, and as long only if it has all its members.
-use mathlib.Core.Path.{_≡_, refl, ap, sym, _∙_}
-use mathlib.Core.Logic.{_⊎_, inl, inr}
-use mathlib.Core.List.{List, [], _∷_, _++_, append-assoc}
-use Prim.Native.Nat.{ℕ, suc, _+_, _≤_, _<_, Ordering}
+-- The pigeonhole principle: a list without repetition inside another is no longer than it, and as long only if it is the other in some order.
+use mathlib.Core.Path.{_≡_, refl, ap}
+use mathlib.Core.List.{List, [], _∷_, _++_}
+use Prim.Native.Nat.{ℕ, _+_, _≤_, _<_}
 use native.Mathlib.Omega.{arith}
-use lib.ListN.{length, getD, length-append}
-use lib.Seq.{getD-append-seam}
+use lib.ListN.{length}
 use Rattle.lists.specs.Select.{total, range}
-use Rattle.lists.proofs.Tests.{_∈_, either}
+use Rattle.lists.proofs.Tests.{_∈_}
 use Rattle.lists.proofs.Permute.{total-append, total-one, Perm}
-use Rattle.lists.proofs.Members.{Decides, NoDup, one, empty, compare-decides, in-head, in-tail, in-list, in-moved, in-cons-cases, in-without, in-or-not, in-range, of-range, nodup-range, in-append-cases, in-append-left, in-append-right, in-middle}
+use Rattle.lists.proofs.Members.{NoDup, one, empty, in-head, in-tail, in-list, in-moved, in-without, in-range}
 use Rattle.lists.proofs.Places.{in-split, range-length}
-
--- some entry stands at two places
-pub record Repeated {A : Type 0} (l : List A) : Type 0 where
-  pub twice : A
-  pub before : List A
-  pub between : List A
-  pub after : List A
-  pub cut : l ≡ before ++ (twice ∷ (between ++ (twice ∷ after)))
 
 module _ {A : Type 0} where
   -- l without repetition and inside m: m is l and a rest, in some order
@@ -52,87 +42,9 @@ module _ {A : Type 0} where
   pub same-members-perm : {l m : List A} → NoDup l → NoDup m → ((x : A) → x ∈ l → x ∈ m) → ((x : A) → x ∈ m → x ∈ l) → Perm l m
   same-members-perm d e h k = inside-perm d h (inside-length e k)
 
-  module _ {c : A → A → Ordering} (w : Decides c) where
-    -- if it is as long, it has all the members
-    pub inside-full : {l m : List A} → NoDup l → ((x : A) → x ∈ l → x ∈ m) → length m ≤ length l → (x : A) → x ∈ m → x ∈ l
-    inside-full {l} {m} d h k x i =
-        either (in-or-not w x l) (λ j. j)
-        (λ n.
-        let b = inside-length {m = m} (one n d) (λ y j. either (in-cons-cases j) (λ e. in-moved (sym e) i) (λ u. h y u)) in
-        absurd (omega arith))
-
-    -- a list has a repetition or none
-    pub nodup-or-repeated : (l : List A) → NoDup l ⊎ Repeated l
-    nodup-or-repeated [] = inl empty
-    nodup-or-repeated (x ∷ l) =
-        either (in-or-not w x l)
-        (λ i. let s = in-split i in inr (record { twice = x; before = []; between = s .0; after = s .1; cut = ap (λ m. x ∷ m) (s .2) }))
-        (λ n. either (nodup-or-repeated l)
-        (λ d. inl (one n d))
-        (λ r. inr (record { twice = r .twice; before = x ∷ r .before; between = r .between; after = r .after; cut = ap (λ m. x ∷ m) (r .cut) })))
-
-  -- a repetition, by its two indices
-  pub repeated-index : {l : List A} (d : A) → Repeated l → (i : ℕ) × (j : ℕ) × (i < j) × (j < length l) × (getD l i d ≡ getD l j d)
-  repeated-index {l} d r =
-      let x = r .twice in
-      let i = length (r .before) in
-      let a : List A = r .before ++ (x ∷ r .between) in
-      let e : l ≡ a ++ (x ∷ r .after) = r .cut ∙ sym (append-assoc (r .before) (x ∷ r .between) (x ∷ r .after)) in
-      let k : length a ≡ i + suc (length (r .between)) = length-append (r .before) (x ∷ r .between) in (
-        i,
-        length a,
-        omega arith,
-        omega (arith, ap length e, length-append a (x ∷ r .after)),
-        ap (λ m. getD m i d) (r .cut)
-            ∙ getD-append-seam (r .before) x (r .between ++ (x ∷ r .after)) d
-            ∙ sym (getD-append-seam a x (r .after) d)
-            ∙ sym (ap (λ m. getD m (length a) d) e),
-      )
-
 below-range : (n : ℕ) {l : List ℕ} → ((x : ℕ) → x ∈ l → x < n) → (x : ℕ) → x ∈ l → x ∈ range 0 n
 below-range n h x i = let b = h x i in in-range 0 n (omega arith) (omega arith)
 
 -- no more than n numbers below n are without repetition
 pub nodup-below-length : (n : ℕ) {l : List ℕ} → NoDup l → ((x : ℕ) → x ∈ l → x < n) → length l ≤ n
 nodup-below-length n {l} d h = omega (arith, inside-length d (below-range n h), range-length 0 n)
-
--- more than n numbers below n: one of them stands at two places
-pub pigeon : (n : ℕ) (l : List ℕ) → ((x : ℕ) → x ∈ l → x < n) → n < length l → Repeated l
-pigeon n l h k = either (nodup-or-repeated compare-decides l) (λ d. let b = nodup-below-length n d h in absurd (omega arith)) (λ r. r)
-
-pub pigeon-index : (n : ℕ) (l : List ℕ) → ((x : ℕ) → x ∈ l → x < n) → n < length l
-    → (i : ℕ) × (j : ℕ) × (i < j) × (j < length l) × (getD l i 0 ≡ getD l j 0)
-pigeon-index n l h k = repeated-index 0 (pigeon n l h k)
-
--- n numbers below n without repetition are all the numbers below n
-pub nodup-below-full : (n : ℕ) {l : List ℕ} → NoDup l → ((x : ℕ) → x ∈ l → x < n) → length l ≡ n → (x : ℕ) → x < n → x ∈ l
-nodup-below-full n d h e x k =
-    inside-full compare-decides d (below-range n h) (omega (arith, range-length 0 n)) x (in-range 0 n (omega arith) (omega arith))
-
--- and they are 0, .., n − 1 in some order
-pub nodup-below-perm : (n : ℕ) {l : List ℕ} → NoDup l → ((x : ℕ) → x ∈ l → x < n) → length l ≡ n → Perm l (range 0 n)
-nodup-below-perm n d h e = inside-perm d (below-range n h) (omega (arith, range-length 0 n))
-
--- n numbers among which every number below n stands are without repetition
-pub full-nodup : (n : ℕ) (l : List ℕ) → length l ≡ n → ((x : ℕ) → x < n → x ∈ l) → NoDup l
-full-nodup n l e h =
-    either (nodup-or-repeated compare-decides l) (λ d. d)
-    (λ r.
-    let a : List ℕ = r .before ++ (r .between ++ (r .twice ∷ r .after)) in
-    let b : length (range 0 n) ≤ length a =
-    inside-length (nodup-range 0 n) (λ x i. let k = of-range 0 n i in drop-first r x (in-list (r .cut) (h x (omega arith)))) in
-    absurd (omega (
-      arith,
-      range-length 0 n,
-      ap length (r .cut),
-      length-append (r .before) (r .twice ∷ (r .between ++ (r .twice ∷ r .after))),
-      length-append (r .before) (r .between ++ (r .twice ∷ r .after)),
-    )))
-  where
-    drop-first : (r : Repeated l) (x : ℕ) → x ∈ (r .before ++ (r .twice ∷ (r .between ++ (r .twice ∷ r .after))))
-        → x ∈ (r .before ++ (r .between ++ (r .twice ∷ r .after)))
-    drop-first r x i =
-        either (in-append-cases (r .before) i)
-        (λ j. in-append-left (r .between ++ (r .twice ∷ r .after)) j)
-        (λ j. in-append-right (r .before)
-        (either (in-cons-cases j) (λ q. in-moved (sym q) (in-middle (r .between) (r .after))) (λ k. k)))

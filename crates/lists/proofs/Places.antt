@@ -1,8 +1,7 @@
 -- Places in lists: where an entry stands, what stands from there on and what comes next; entries by index; ranges of numbers; how often a number stands in a list.
 use mathlib.Core.Path.{_≡_, refl, ap, ap₂, sym, _∙_}
-use mathlib.Core.List.{List, [], _∷_, _++_, map, List·Memᴰ·head, List·Memᴰ·tail}
+use mathlib.Core.List.{List, [], _∷_, _++_, List·Memᴰ·head, List·Memᴰ·tail}
 use mathlib.Core.Bool.{false}
-use mathlib.Core.Option.{none}
 use Prim.Native.Nat.{ℕ, zero, suc, _+_, _≤_, _<_, Ordering, compare}
 use native.Mathlib.Omega.{arith}
 use lib.ListN.{length, getD, length-append}
@@ -40,14 +39,6 @@ module _ {A : Type 0} where
   nodup-index d (suc i) zero (one {x = x} {l = l} n u) h k e = absurd (n (in-moved e (in-index l i d (omega arith))))
   nodup-index d (suc i) (suc j) (one n u) h k e = ap suc (nodup-index d i j u (omega arith) (omega arith) e)
 
-  -- entries at different indices are different: no repetition
-  pub index-nodup : (l : List A) (d : A) → ((i j : ℕ) → i < j → j < length l → getD l i d ≡ getD l j d → ⊥) → NoDup l
-  index-nodup [] d h = empty
-  index-nodup (x ∷ l) d h =
-      one {x = x} {l = l}
-      (λ m. let r = index-of d m in h zero (suc (r .0)) (omega arith) (omega (arith, r .1)) (sym (r .2)))
-      (index-nodup l d (λ i j u v e. h (suc i) (suc j) (omega arith) (omega arith) e))
-
   module _ {c : A → A → Ordering} (w : Decides c) where
     same-apart : (x y : A) (l : List A) → (x ∈ (y ∷ l) → ⊥) → same c x y ≡ false
     same-apart x y l n = by-test (same c x y) (λ t. absurd (n (List·Memᴰ·head (w .sound x y t)))) (λ t. t)
@@ -79,19 +70,6 @@ module _ {A : Type 0} where
     next-split [] x b n = rw (w .self x)
     next-split (y ∷ a) x b n = rw (same-apart x y a n) (next-split a x b (λ m. n (in-tail m)))
 
-    -- x does not stand in l
-    pub place-out : (x : A) (l : List A) → (x ∈ l → ⊥) → place c x l ≡ length l
-    place-out x [] n = refl
-    place-out x (y ∷ l) n = rw (same-apart x y l n) (ap suc (place-out x l (λ m. n (in-tail m))))
-
-    pub from-out : (x : A) (l : List A) → (x ∈ l → ⊥) → from c x l ≡ []
-    from-out x [] n = refl
-    from-out x (y ∷ l) n = rw (same-apart x y l n) (from-out x l (λ m. n (in-tail m)))
-
-    pub next-out : (x : A) (l : List A) → (x ∈ l → ⊥) → next c x l ≡ none
-    next-out x [] n = refl
-    next-out x (y ∷ l) n = rw (same-apart x y l n) (next-out x l (λ m. n (in-tail m)))
-
     -- a member's place is an index of the list, and x stands there
     pub place-index : (d : A) {x : A} {l : List A} → x ∈ l → (place c x l < length l) × (getD l (place c x l) d ≡ x)
     place-index d {x} {l} m =
@@ -100,10 +78,6 @@ module _ {A : Type 0} where
           omega (arith, ap length (r .2), length-append (r .0) (x ∷ r .1)),
           ap₂ (λ l i. getD l i d) (r .2) p ∙ getD-append-seam (r .0) x (r .1) d,
         )
-
-    -- x stands in l exactly if its place is an index of l
-    pub in-of-place : (x : A) (l : List A) → place c x l < length l → x ∈ l
-    in-of-place x l h = either (in-or-not w x l) (λ m. m) (λ n. let e = place-out x l n in absurd (omega arith))
 
     -- without repetition, the entry at i has place i
     pub place-at : {l : List A} (d : A) (i : ℕ) → NoDup l → i < length l → place c (getD l i d) l ≡ i
@@ -141,10 +115,6 @@ getD-range a zero i d h = absurd (omega arith)
 getD-range a (suc k) zero d h = omega arith
 getD-range a (suc k) (suc i) d h = omega (arith, getD-range (suc a) k i d (omega arith))
 
-pub range-suc : (a k : ℕ) → map suc (range a k) ≡ range (suc a) k
-range-suc a zero = refl
-range-suc a (suc k) = ap (λ r. suc a ∷ r) (range-suc (suc a) k)
-
 -- How often.
 pub times-append : (x : ℕ) (l m : List ℕ) → times x (l ++ m) ≡ times x l + times x m
 times-append x [] m = omega arith
@@ -160,9 +130,6 @@ times-in {x} {l = y ∷ l} (List·Memᴰ·tail m) = omega (arith, times-in m)
 
 pub in-of-times : (x : ℕ) (l : List ℕ) → 0 < times x l → x ∈ l
 in-of-times x l h = either (in-or-not compare-decides x l) (λ m. m) (λ n. let e = times-out x l n in absurd (omega arith))
-
-pub out-of-times : (x : ℕ) (l : List ℕ) → times x l ≡ 0 → x ∈ l → ⊥
-out-of-times x l e m = omega (arith, times-in m)
 
 -- once, where there is no repetition
 pub times-nodup : {x : ℕ} {l : List ℕ} → NoDup l → x ∈ l → times x l ≡ 1

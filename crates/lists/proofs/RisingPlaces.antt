@@ -4,14 +4,11 @@ use mathlib.Core.Bool.{Bool, true, false, not}
 use mathlib.Core.List.{List, [], _∷_, _++_}
 use Prim.Native.Nat.{ℕ, suc, Ordering, Ordering·lt, Ordering·eq, compare}
 use native.Mathlib.Omega.{arith}
-use lib.Dec.{ltb}
-use borrow.Author.Tests.{lt-ltb, le-ltb}
-use Rattle.lists.specs.Order.{same}
-use Rattle.lists.specs.Select.{keep, once, place, first, next}
+use Rattle.lists.specs.Order.{same, lexBy}
+use Rattle.lists.specs.Select.{keep, once, place}
 use Rattle.lists.proofs.Tests.{_∈_, by-test, either, no-both, not-of-true}
 use Rattle.lists.proofs.Comparison.{Lawful, opposite, by-order, compare-lt, compare-gt, compare-self, lt-of-compare, gt-of-compare, eq-of-compare}
-use Rattle.lists.proofs.Lex.{lexBy}
-use Rattle.lists.proofs.Members.{Decides, in-head, in-tail, in-cons-cases, not-in-nil, of-keep, of-once, keep-all}
+use Rattle.lists.proofs.Members.{Decides, in-head, in-tail, in-cons-cases, not-in-nil, of-keep, of-once}
 use Rattle.lists.proofs.Rising.{Rising, rising-nil, rising-cons, rising-keep}
 
 -- the flag after the entries of a list
@@ -89,45 +86,3 @@ module _ {A : Type 0} {c : A → A → Ordering} (w : Decides c) where
 
       below : (x y : A) → same c x z ≡ true → y ∈ l → d x y ≡ Ordering·lt
       below x y t m = ap (λ v. d v y) (w .sound x z t) ∙ h y m
-
--- keeping by two tests, in either order
-pub keep-swapped : {A : Type 0} (p q : A → Bool) (l : List A) → keep p (keep q l) ≡ keep q (keep p l)
-keep-swapped p q [] = refl
-keep-swapped p q (x ∷ l) =
-    by-test (p x)
-    (λ t. by-test (q x) (λ u. rw (t, u, t) (ap (λ k. x ∷ k) (keep-swapped p q l))) (λ u. rw (t, u) (keep-swapped p q l)))
-    (λ t. by-test (q x) (λ u. rw (t, u, t) (keep-swapped p q l)) (λ u. rw (t, u) (keep-swapped p q l)))
-
--- a test that the other one implies does not matter
-pub keep-implied : {A : Type 0} (p q : A → Bool) (l : List A) → ((x : A) → p x ≡ true → q x ≡ true) → keep p (keep q l) ≡ keep p l
-keep-implied p q [] h = refl
-keep-implied p q (x ∷ l) h =
-    by-test (p x)
-    (λ t. rw (h x t, t) (ap (λ k. x ∷ k) (keep-implied p q l h)))
-    (λ t. by-test (q x) (λ u. rw (u, t) (keep-implied p q l h)) (λ u. rw (u, t) (keep-implied p q l h)))
-
-module _ {A : Type 0} {c : A → A → Ordering} (w : Decides c) where
-  -- keeping and clearing of repetitions, in either order
-  pub keep-once : (p : A → Bool) (l : List A) → keep p (once c l) ≡ once c (keep p l)
-  keep-once p [] = refl
-  keep-once p (z ∷ l) =
-      by-test (p z)
-      (λ t. rw t (ap (λ k. z ∷ k) (keep-swapped p (λ y. not (same c z y)) (once c l) ∙ ap (keep (λ y. not (same c z y))) (keep-once p l))))
-      (λ t. rw t
-      (keep-implied p (λ y. not (same c z y)) (once c l)
-      (λ y u. by-test (same c z y) (λ v. no-both u (ap p (sym (w .sound z y v)) ∙ t)) (λ v. rw v))
-      ∙ keep-once p l))
-
-  -- in a list that rises by a key, what follows x is the first with a greater key
-  pub rising-next : (f : A → ℕ) {l : List A} {x : A} → Rising (λ y z. compare (f y) (f z)) l → x ∈ l → next c x l ≡ first (keep (λ y. ltb (f x) (f y)) l)
-  rising-next f rising-nil i = not-in-nil i
-  rising-next f {x = x} (rising-cons {x = z} {l = l} h r) i =
-      by-test (same c x z)
-      (λ t.
-      let e : x ≡ z = w .sound x z t in
-      rw (t, le-ltb (f x) (f z) (omega (arith, ap f e)))
-      (ap first (sym (keep-all (λ y. ltb (f x) (f y)) l (λ y m. lt-ltb (f x) (f y) (omega (arith, ap f e, lt-of-compare (f z) (f y) (h y m))))))))
-      (λ t.
-      let m : x ∈ l = either (in-cons-cases i) (λ q. no-both (ap (same c x) (sym q) ∙ w .self x) t) (λ k. k) in
-      rw (t, le-ltb (f x) (f z) (omega (arith, lt-of-compare (f z) (f x) (h x m))))
-      (rising-next f r m))

@@ -1,18 +1,17 @@
 -- Sorted lists and insertion sort: its result is sorted and a permutation, and a list has only one sorted permutation.
-use mathlib.Core.Path.{_≡_, refl, ap, ap₂, sym, _∙_}
+use mathlib.Core.Path.{_≡_, refl, ap, ap₂, _∙_}
 use mathlib.Core.Logic.{_⊎_, inl, inr}
-use mathlib.Core.Bool.{Bool, true, false, not, cond}
-use mathlib.Core.List.{List, [], _∷_, _++_, map, List·Memᴰ, List·Memᴰ·head, List·Memᴰ·tail, List·Memᴰ·cases-cons, List·Memᴰ·not-nil, List·Memᴰ·append-cases, Memᴰ·append-left, Memᴰ·append-right}
-use Prim.Native.Nat.{ℕ, zero, suc, _+_, Ordering, Ordering·lt, Ordering·eq, Ordering·gt}
+use mathlib.Core.Bool.{Bool, true}
+use mathlib.Core.List.{List, [], _∷_, _++_, map, List·Memᴰ·head, List·Memᴰ·tail, List·Memᴰ·cases-cons, List·Memᴰ·not-nil, List·Memᴰ·append-cases, Memᴰ·append-left, Memᴰ·append-right}
+use Prim.Native.Nat.{ℕ, _+_, Ordering}
 use native.Mathlib.Omega.{arith}
-use lib.Dec.{isLe}
 use lib.ListN.{length}
 use Rattle.lists.specs.Order.{atMost}
 use Rattle.lists.specs.Sort.{insert, sort}
-use Rattle.lists.specs.Select.{keep, each, total}
-use Rattle.lists.proofs.Tests.{by-test, either, each-cons, each-head, each-tail, each-true, each-member, _∈_}
+use Rattle.lists.specs.Select.{each, total}
+use Rattle.lists.proofs.Tests.{by-test, either, each-cons, each-head, each-true, each-member, _∈_}
 use Rattle.lists.proofs.Comparison.{Lawful, atMost-self, atMost-trans, atMost-anti, atMost-turned}
-use Rattle.lists.proofs.Permute.{Perm, perm-refl, perm-sym, perm-trans, perm-cons, perm-tail, perm-swap, perm-append, perm-length, perm-keep, perm-each, perm-each-same}
+use Rattle.lists.proofs.Permute.{Perm, perm-refl, perm-sym, perm-trans, perm-cons, perm-tail, perm-swap, perm-length, perm-each, perm-each-same}
 
 -- every entry is at most every later one
 pub data Sorted {A : Type 0} (c : A → A → Ordering) : List A → Type 0 where
@@ -44,31 +43,12 @@ module _ {A : Type 0} {c : A → A → Ordering} where
   sorted-left (x ∷ l) m (sorted-cons a s) =
       sorted-cons (each-true (atMost c x) l (λ y k. each-member (atMost c x) a (Memᴰ·append-left m k))) (sorted-left l m s)
 
-  pub sorted-right : (l : List A) {m : List A} → Sorted c (l ++ m) → Sorted c m
-  sorted-right [] s = s
-  sorted-right (x ∷ l) (sorted-cons a s) = sorted-right l s
-
   pub sorted-across : (l : List A) {m : List A} {x y : A} → Sorted c (l ++ m) → x ∈ l → y ∈ m → atMost c x y ≡ true
   sorted-across [] s k k′ = absurd (List·Memᴰ·not-nil k)
   sorted-across (z ∷ l) {m} {x} {y} (sorted-cons a s) k k′ =
       either (List·Memᴰ·cases-cons k)
       (λ q. ap (λ t. atMost c t y) q ∙ each-member (atMost c z) a (Memᴰ·append-right l k′))
       (λ k″. sorted-across l s k″ k′)
-
-  -- leaving entries out keeps a list sorted
-  pub sorted-keep : (p : A → Bool) {l : List A} → Sorted c l → Sorted c (keep p l)
-  sorted-keep p sorted-nil = sorted-nil
-  sorted-keep p (sorted-cons {x = x} {l = l} a s) =
-      by-test (p x)
-      (λ e. rw e (sorted-cons (each-true (atMost c x) (keep p l) (λ y k. each-member (atMost c x) a (kept l k))) (sorted-keep p s)))
-      (λ e. rw e (sorted-keep p s))
-    where
-      kept : (m : List A) {y : A} → y ∈ keep p m → y ∈ m
-      kept [] k = k
-      kept (z ∷ m) {y} k =
-          by-test (p z)
-          (λ e. either (List·Memᴰ·cases-cons (rw e at k)) (λ q. List·Memᴰ·head q) (λ k′. List·Memᴰ·tail (kept m k′)))
-          (λ e. List·Memᴰ·tail (kept m (rw e at k)))
 
 module _ {A : Type 0} (c : A → A → Ordering) where
   -- inserting adds one entry
@@ -91,15 +71,6 @@ module _ {A : Type 0} (c : A → A → Ordering) where
       (λ q. inr (List·Memᴰ·head q))
       (λ k. either (insert-member x l k) (λ q. inl q) (λ k′. inr (List·Memᴰ·tail k′))))
 
-  pub member-insert : (x : A) (l : List A) {y : A} → y ∈ (x ∷ l) → y ∈ insert c x l
-  member-insert x [] m = m
-  member-insert x (z ∷ l) m =
-      by-test (atMost c x z)
-      (λ e. rw e m)
-      (λ e. rw e (either (List·Memᴰ·cases-cons m)
-      (λ q. List·Memᴰ·tail (member-insert x l (List·Memᴰ·head q)))
-      (λ k. either (List·Memᴰ·cases-cons k) (λ q. List·Memᴰ·head q) (λ k′. List·Memᴰ·tail (member-insert x l (List·Memᴰ·tail k′))))))
-
   -- sorting permutes
   pub sort-perm : (l : List A) → Perm (sort c l) l
   sort-perm [] = perm-refl
@@ -118,11 +89,6 @@ module _ {A : Type 0} (c : A → A → Ordering) where
   pub sort-member : (l : List A) {x : A} → x ∈ sort c l → x ∈ l
   sort-member [] m = m
   sort-member (y ∷ l) m = either (insert-member y (sort c l) m) (λ q. List·Memᴰ·head q) (λ k. List·Memᴰ·tail (sort-member l k))
-
-  pub member-sort : (l : List A) {x : A} → x ∈ l → x ∈ sort c l
-  member-sort [] m = m
-  member-sort (y ∷ l) m =
-      member-insert y (sort c l) (either (List·Memᴰ·cases-cons m) (λ q. List·Memᴰ·head q) (λ k. List·Memᴰ·tail (member-sort l k)))
 
 module _ {A : Type 0} {c : A → A → Ordering} (w : Lawful c) where
   each-further : (x y : A) (l : List A) → atMost c x y ≡ true → each (atMost c y) l ≡ true → each (atMost c x) l ≡ true
@@ -164,24 +130,9 @@ module _ {A : Type 0} {c : A → A → Ordering} (w : Lawful c) where
   pub sort-perm-equal : {l m : List A} → Perm l m → sort c l ≡ sort c m
   sort-perm-equal {l} {m} p = sorted-unique (sort-sorted l) (sort-sorted m) (perm-trans (sort-perm c l) (perm-trans p (perm-sym (sort-perm c m))))
 
-  -- equal when sorted: a permutation
-  pub perm-of-sort : (l m : List A) → sort c l ≡ sort c m → Perm l m
-  perm-of-sort l m e = perm-trans (perm-sym (sort-perm c l)) (rw e (sort-perm c m))
-
   -- a sorted permutation is the result of sorting
   pub sort-is : {l m : List A} → Sorted c m → Perm l m → sort c l ≡ m
   sort-is s p = sort-perm-equal p ∙ sort-of-sorted s
-
-  pub sort-twice : (l : List A) → sort c (sort c l) ≡ sort c l
-  sort-twice l = sort-of-sorted (sort-sorted l)
-
-  -- picking and sorting may change places
-  pub sort-keep : (p : A → Bool) (l : List A) → sort c (keep p l) ≡ keep p (sort c l)
-  sort-keep p l = sort-is (sorted-keep p (sort-sorted l)) (perm-keep p (perm-sym (sort-perm c l)))
-
-  -- sorting two lists joined, from each of them sorted
-  pub sort-append : (l m : List A) → sort c (l ++ m) ≡ sort c (sort c l ++ sort c m)
-  sort-append l m = sort-perm-equal (perm-append (perm-sym (sort-perm c l)) (perm-sym (sort-perm c m)))
 
 module _ {A B : Type 0} (c : A → A → Ordering) (d : B → B → Ordering) (f : A → B) where
   -- f keeps the comparison on the entries: it may be applied before or after inserting and sorting
@@ -197,15 +148,3 @@ module _ {A B : Type 0} (c : A → A → Ordering) (d : B → B → Ordering) (f
   sort-map (x ∷ l) h =
       ap (insert d (f x)) (sort-map l (λ y z m n. h y z (List·Memᴰ·tail m) (List·Memᴰ·tail n)))
       ∙ insert-map x (sort c l) (λ y m. h x y (List·Memᴰ·head refl) (List·Memᴰ·tail (sort-member c l m)))
-
-  -- f keeps the comparison: the image of a sorted list is sorted
-  pub sorted-map : {l : List A} → ((x y : A) → x ∈ l → y ∈ l → d (f x) (f y) ≡ c x y) → Sorted c l → Sorted d (map f l)
-  sorted-map h sorted-nil = sorted-nil
-  sorted-map h (sorted-cons {x = x} {l = l} a s) =
-      sorted-cons
-      (images l (λ y m. ap isLe (h x y (List·Memᴰ·head refl) (List·Memᴰ·tail m)) ∙ each-member (atMost c x) a m))
-      (sorted-map (λ y z m n. h y z (List·Memᴰ·tail m) (List·Memᴰ·tail n)) s)
-    where
-      images : (m : List A) → ((y : A) → y ∈ m → atMost d (f x) (f y) ≡ true) → each (atMost d (f x)) (map f m) ≡ true
-      images [] k = refl
-      images (y ∷ m) k = each-cons (atMost d (f x)) (map f m) (k y (List·Memᴰ·head refl)) (images m (λ z n. k z (List·Memᴰ·tail n)))

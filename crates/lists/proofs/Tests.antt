@@ -25,10 +25,6 @@ pub is-false : (b : Bool) → (b ≡ true → ⊥) → b ≡ false
 is-false true h = absurd (h refl)
 is-false false h = refl
 
-pub is-true : (b : Bool) → (b ≡ false → ⊥) → b ≡ true
-is-true true h = refl
-is-true false h = absurd (h refl)
-
 -- two tests are equal if each is true where the other is
 pub same-tests : (a b : Bool) → (a ≡ true → b ≡ true) → (b ≡ true → a ≡ true) → a ≡ b
 same-tests true b f g = sym (f refl)
@@ -67,22 +63,12 @@ module _ {ℓ κ} {A : Type ℓ} (P : A → Type κ) where
   choose-case true p q = p refl
   choose-case false p q = q refl
 
--- a function of the chosen arm
-pub choose-map {ℓ κ} : {A : Type ℓ} {B : Type κ} (f : A → B) (b : Bool) {x y : A} {u v : B} → u ≡ f x → v ≡ f y → cond b u v ≡ f (cond b x y)
-choose-map f true p q = p
-choose-map f false p q = q
-
 -- the chosen arm, by the test's answer
 pub cond-true {ℓ} : {A : Type ℓ} {b : Bool} (x y : A) → b ≡ true → cond b x y ≡ x
 cond-true x y e = ap (λ t. cond t x y) e
 
 pub cond-false {ℓ} : {A : Type ℓ} {b : Bool} (x y : A) → b ≡ false → cond b x y ≡ y
 cond-false x y e = ap (λ t. cond t x y) e
-
--- both arms are the same
-pub cond-same {ℓ} : {A : Type ℓ} (b : Bool) {x : A} → cond b x x ≡ x
-cond-same true = refl
-cond-same false = refl
 
 -- a choice whose second arm is false
 pub cond-and : (a b : Bool) → cond a b false ≡ true → (a ≡ true) × (b ≡ true)
@@ -109,14 +95,6 @@ module _ {A : Type 0} (p : A → Bool) where
   each-member {l = x ∷ l} e (List·Memᴰ·head q) = ap p q ∙ each-head x l e
   each-member {l = x ∷ l} e (List·Memᴰ·tail m) = each-member (each-tail x l e) m
 
-  -- if `each` says false, some member fails
-  pub not-each : (l : List A) → each p l ≡ false → (x : A) × (x ∈ l) × (p x ≡ false)
-  not-each [] e = absurd (true≢false e)
-  not-each (x ∷ l) e =
-      by-test (p x)
-      (λ t. let r = not-each l (rw t at e) in (r .0, List·Memᴰ·tail (r .1), r .2))
-      (λ f. (x, List·Memᴰ·head refl, f))
-
   -- if some member fails, `each` says false
   pub each-false : {l : List A} {x : A} → x ∈ l → p x ≡ false → each p l ≡ false
   each-false {l} m e = is-false (each p l) (λ t. no-both (each-member t m) e)
@@ -138,22 +116,6 @@ module _ {A : Type 0} (p : A → Bool) where
   some-true {l = y ∷ l} (List·Memᴰ·head q) e = rw (sym (ap p q) ∙ e)
   some-true {l = y ∷ l} (List·Memᴰ·tail m) e = by-test (p y) (λ t. rw t) (λ f. rw f (some-true m e))
 
-  -- if no member passes, `some-of` says false, and the other way round
-  pub some-false : (l : List A) → ((x : A) → x ∈ l → p x ≡ false) → some-of p l ≡ false
-  some-false l h = is-false (some-of p l) (λ t. let r = some-member l t in no-both (r .2) (h (r .0) (r .1)))
-
-  pub not-some : {l : List A} {x : A} → some-of p l ≡ false → x ∈ l → p x ≡ false
-  not-some {x = x} e m = is-false (p x) (λ t. no-both (some-true m t) e)
-
   pub some-append : (l m : List A) → some-of p (l ++ m) ≡ (some-of p l || some-of p m)
   some-append [] m = refl
   some-append (x ∷ l) m = by-test (p x) (λ t. rw t) (λ f. rw (f, some-append l m))
-
--- `each` and `some-of` of a test that agrees on every member
-pub each-same : {A : Type 0} (p q : A → Bool) (l : List A) → ((x : A) → x ∈ l → p x ≡ q x) → each p l ≡ each q l
-each-same p q [] h = refl
-each-same p q (x ∷ l) h = ap₂ (λ a b. cond a b false) (h x (List·Memᴰ·head refl)) (each-same p q l (λ y m. h y (List·Memᴰ·tail m)))
-
-pub each-map : {A B : Type 0} (f : A → B) (p : B → Bool) (l : List A) → each p (map f l) ≡ each (λ x. p (f x)) l
-each-map f p [] = refl
-each-map f p (x ∷ l) = rw (each-map f p l)

@@ -1,5 +1,5 @@
 -- Comparisons: a function to the kit's `Ordering` (`Ordering·lt`, `Ordering·eq`, `Ordering·gt`), and the lexicographic one over lists.
-use mathlib.Core.Bool.{Bool}
+use mathlib.Core.Bool.{Bool, cond}
 use mathlib.Core.List.{List, [], _∷_}
 use Prim.Native.Nat.{Ordering, Ordering·lt, Ordering·eq, Ordering·gt}
 use lib.Dec.{isLe, isEq}
@@ -25,4 +25,14 @@ lex c [] (y ∷ m) = Ordering·lt
 lex c (x ∷ l) [] = Ordering·gt
 lex c (x ∷ l) (y ∷ m) =
     let rest = lex c l m in
+    then (c x y) rest
+
+-- The same with a flag: where there is no difference, the shorter list comes first if the flag says true, and last if it says false.
+-- `next` gives the flag of the lists without their first entries.
+abbrev pub lexBy : {A : Type 0} → (A → A → Ordering) → (Bool → Bool) → Bool → List A → List A → Ordering
+lexBy c next e [] [] = Ordering·eq
+lexBy c next e [] (y ∷ m) = cond e Ordering·lt Ordering·gt
+lexBy c next e (x ∷ l) [] = cond e Ordering·gt Ordering·lt
+lexBy c next e (x ∷ l) (y ∷ m) =
+    let rest = lexBy c next (next e) l m in
     then (c x y) rest

@@ -3,6 +3,8 @@ use mathlib.Core.Bool.{Bool, true, false, cond, not, _&&_, _||_}
 use mathlib.Core.List.{List, [], _∷_, _++_}
 use mathlib.Core.Option.{Option, none, some}
 use Prim.Native.Nat.{ℕ, zero, suc, _+_, Ordering, compare}
+use lib.Dec.{eqb}
+use lib.ListN.{getD}
 use Rattle.lists.specs.Order.{same}
 
 -- the entries that pass, in their order
@@ -62,6 +64,12 @@ place c x [] = 0
 place c x (y ∷ l) =
     let later = suc (place c x l) in
     cond (same c x y) 0 later
+
+-- the entry at place k, if it passes and stands nowhere before; d is read past the end
+unfoldable pub newAt : {A : Type 0} → (A → A → Ordering) → (A → Bool) → A → List A → ℕ → List A
+newAt c p d l k =
+    let x = getD l k d in
+    cond (p x && eqb (place c x l) k) (x ∷ []) []
 
 -- the list from the first x on
 abbrev pub from : {A : Type 0} → (A → A → Ordering) → A → List A → List A

@@ -49,14 +49,18 @@ unfoldable pub children : Component → List Component
 unfolding isChild compareComponent
 children c = once compareComponent (keep (isChild c) (candidates c))
 
--- Theorem 13 with alternating output: at even depth c comes before its descendants, at odd depth after them; depth below c is at most j − 1
-unfoldable pub visit : ℕ → Bool → Component → List Component
-unfolding children
-visit zero even c = []
-visit (suc j) true c = c ∷ gather (visit j false) (children c)
-visit (suc j) false c = gather (visit j true) (children c) ++ (c ∷ [])
+-- Theorem 13 with alternating output, over any children: at even depth (true) c comes before its descendants, at odd depth after them; depth below c is
+-- at most j − 1
+abbrev pub walk : {A : Type 0} → (A → List A) → ℕ → Bool → A → List A
+walk kids zero even c = []
+walk kids (suc j) true c = c ∷ gather (walk kids j false) (kids c)
+walk kids (suc j) false c = gather (walk kids j true) (kids c) ++ (c ∷ [])
+
+-- the cycle of n points
+abbrev pub cycle : ℕ → Component
+cycle n = replicate n point
 
 -- all components of n points in generation order; the cycle of n points is at depth 0, and each step down has one tree less
 unfoldable pub generation : ℕ → List Component
-unfolding visit
-generation n = visit n true (replicate n point)
+unfolding children
+generation n = walk children n true (cycle n)

@@ -4,10 +4,9 @@ use mathlib.Core.List.{List, [], _∷_, map}
 use mathlib.Core.Option.{Option, none, some, Option·map}
 use Prim.Native.Nat.{ℕ, zero, suc, _+_, _-_}
 use lib.Dec.{leb, eqb}
-use lib.ListN.{replicate}
 use Rattle.lists.specs.Select.{otherwise}
-use Rattle.patterns.specs.Tree.{point}
 use Rattle.patterns.specs.Component.{Component, points}
+pub use Rattle.patterns.specs.Generation.{cycle}
 use Rattle.patterns.specs.System.{System}
 use Rattle.component_theory.specs.Successor.{successor}
 
@@ -23,10 +22,6 @@ nextSizes [] = none
 nextSizes (a ∷ []) = none
 nextSizes (a ∷ b ∷ []) = some (leastSizes (a + b) (suc a) (a + b))
 nextSizes (a ∷ b ∷ c ∷ l) = Option·map (a ∷_) (nextSizes (b ∷ c ∷ l))
-
--- the cycle of s points
-abbrev pub cycle : ℕ → Component
-cycle s = replicate s point
 
 -- the first component of s points that may stand to the right of d: d again, or where d has not s points the cycle
 abbrev pub fill : Component → ℕ → Component

@@ -6,7 +6,7 @@ use Prim.Native.Nat.{compare}
 use native.Mathlib.Omega.{arith}
 use borrow.Author.Needs.{needs}
 use lib.ListN.{length, drop}
-use Rattle.lists.proofs.Lex.{lexBy}
+use Rattle.lists.specs.Order.{lexBy}
 use Rattle.components.proofs.Tracing.{lent-length, back-length, back-part, traced-within, generated-by-paths}
 use Rattle.components.proofs.compare_generated.Statement.{statement}
 use Rattle.components.proofs.compare_generated.Tie as tie

@@ -3,7 +3,7 @@ use Prim.Native.Nat.{_+_, _-_}
 use native.Mathlib.Nat.{add-zero}
 use native.Mathlib.Omega.{arith}
 use borrow.Author.Needs.{needs}
-use Rattle.component_theory.proofs.ChildPlaces.{childFrom}
+use Rattle.component_theory.specs.ChildPlaces.{childFrom}
 use Rattle.generation.proofs.Scanning.{gave-path, some-trees, node-pairs, passed-found, passed-on}
 use Rattle.generation.proofs.scan.Statement.{statement}
 use Rattle.generation.proofs.scan.Tie as tie

@@ -8,7 +8,8 @@ use Prim.Native.Nat.{ℕ, _<_}
 use Rattle.lists.specs.Select.{gather, first}
 use Rattle.lists.proofs.Members.{in-tail, in-list, in-append-right, gather-append}
 use Rattle.lists.proofs.Follow.{Within, otherwise, first-append, first-gather}
-use Rattle.component_theory.proofs.Traversal.{walk, Ranked, level-walk-true, level-walk-false}
+use Rattle.patterns.specs.Generation.{walk}
+use Rattle.component_theory.proofs.Traversal.{Ranked, level-walk-true, level-walk-false}
 
 -- b stands in l in one piece, and what follows it is r: an entry, or nothing
 pub record Block {A : Type 0} (b l : List A) (r : Option A) : Type 0 where
