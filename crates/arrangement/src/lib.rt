@@ -1,7 +1,7 @@
 // Putting trees and components in their places: sorted in among others, and turned to their least rotation, the labels with them.
 use components::at_most;
 use components::compare_generated;
-use components::least_rotation;
+use components::has_least_rotation;
 use lists::Order;
 use lists::compare;
 use lists::exchange;
@@ -71,7 +71,7 @@ pub fn least_start(s: &[u8]) -> usize
     requires { ⌜ Held (now s) ⌝ }
     ensures { λ r. ⌜ ((c : Component) → now (s .entry) ≡ flat c → LeastStart c r) ⌝ }
 {
-    if least_rotation(s) {
+    if has_least_rotation(s) {
         return 0;
     }
     let mut best = 0;

@@ -8,7 +8,7 @@ ghost use mathlib.Core.Path.{_≡_};
 ghost use mathlib.Core.Bool.{not, true, cond};
 ghost use mathlib.Core.List.{_++_};
 ghost use Prim.Native.Nat.{_≤_, _%_, compare as compareNumbers};
-ghost use lib.Dec.{eqb};
+ghost use lib.Dec.{eqb, isLe};
 ghost use lib.ListN.{length, take, drop};
 ghost use Rattle.lists.specs.Order.{lex, lexBy, atMost};
 ghost use Rattle.lists.specs.Select.{each};
@@ -16,8 +16,9 @@ ghost use Rattle.lists.specs.Blocks.{orderingOf};
 ghost use Rattle.patterns.specs.Tree.{Tree, code, validTree};
 ghost use Rattle.patterns.specs.Component.{Component, flat, compareComponent, rotations, validComponent};
 ghost use Rattle.patterns.specs.System.{compareGenerated};
+ghost use Rattle.component_theory.specs.Path.{path};
 ghost use Rattle.memory.specs.Memory.{Held, HeldTree};
-ghost use Rattle.components.specs.Held.{HeldBeside, HeldKeys, HeldTrace, HeldPair, leadingPoints, lastStart, Climbed, Traced};
+ghost use Rattle.components.specs.Held.{HeldBeside, HeldKeys, HeldTrace, HeldPair, HeldPaths, leadingPoints, lastStart, Climbed, Traced};
 
 // A step from a component to its parent: there is none, or the place of the component among its parent's candidates.
 pub enum Climb {
@@ -25,15 +26,22 @@ pub enum Climb {
     Key(usize),
 }
 
-// `s` is not greater than `t`.
-pub fn at_most(s: &[u8], t: &[u8]) -> bool
-    ensures { λ r. ⌜ r ≡ atMost (lex compareNumbers) (now (s .entry)) (now (t .entry)) ⌝ }
+// Less or equal.
+pub fn not_greater(order: Order) -> bool
+    ensures { λ r. ⌜ r ≡ isLe (orderingOf order) ⌝ }
 {
-    match compare(s, t) {
+    match order {
         Order::Less => true,
         Order::Equal => true,
         Order::Greater => false,
     }
+}
+
+// `s` is not greater than `t`.
+pub fn at_most(s: &[u8], t: &[u8]) -> bool
+    ensures { λ r. ⌜ r ≡ atMost (lex compareNumbers) (now (s .entry)) (now (t .entry)) ⌝ }
+{
+    not_greater(compare(s, t))
 }
 
 // Every point of the tree has its branches in nondecreasing order [document 004, Definition 1].
@@ -73,24 +81,24 @@ pub fn valid_trees(s: &[u8]) -> bool
     true
 }
 
-// `s` is not greater than `s` turned to begin at `p`.
-pub fn at_most_turned(s: &[u8], p: usize) -> bool
+// Where `s` stands against `s` turned to begin at `p`.
+pub fn compare_turned(s: &[u8], p: usize) -> Order
     requires { ⌜ p ≤ length (now s) ⌝ }
-    ensures { λ r. ⌜ r ≡ atMost (lex compareNumbers) (now (s .entry)) (drop p (now (s .entry)) ++ take p (now (s .entry))) ⌝ }
+    ensures { λ r. ⌜ orderingOf r ≡ lex compareNumbers (now (s .entry)) (drop p (now (s .entry)) ++ take p (now (s .entry))) ⌝ }
 {
     let n = s.len();
     let q = n - p;
     match compare(&s[..q], &s[p..n]) {
-        Order::Less => true,
-        Order::Greater => false,
-        Order::Equal => at_most(&s[q..n], &s[..p]),
+        Order::Less => Order::Less,
+        Order::Greater => Order::Greater,
+        Order::Equal => compare(&s[q..n], &s[..p]),
     }
 }
 
 // No rotation is less [document 004, Definition 2]. One pass: the trees so far are a prenecklace, that is, a beginning of a power of the trees in their
 // first `period` points. The next tree is held against the tree one period before: if it is less, a rotation is less; if it is greater, all trees so
 // far are the period. At the end the power may be cut off, so the rotation by one period is tested.
-pub fn least_rotation(s: &[u8]) -> bool
+pub fn has_least_rotation(s: &[u8]) -> bool
     requires { ⌜ Held (now s) ⌝ }
     ensures { λ r. ⌜ ((c : Component) → now (s .entry) ≡ flat c → r ≡ each (atMost compareComponent c) (rotations c)) ⌝ }
 {
@@ -110,7 +118,7 @@ pub fn least_rotation(s: &[u8]) -> bool
         }
         at = end;
     }
-    at_most_turned(s, period)
+    not_greater(compare_turned(s, period))
 }
 
 // The component is a valid code [document 004, Definition 2].
@@ -124,7 +132,7 @@ pub fn valid_component(s: &[u8]) -> bool
     if !valid_trees(s) {
         return false;
     }
-    least_rotation(s)
+    has_least_rotation(s)
 }
 
 // The number of trees.
@@ -267,16 +275,38 @@ fn blank_keys() -> [u16; 200]
     [0u16; 200]
 }
 
-// Which of two valid components of equally many points comes first in generation order [document 01, "Generation order of components with n points"].
+// Which of two components of equally many points has the path that comes first.
+fn compare_by_paths(
+    a: &[u8],
+    b: &[u8],
+    work: &mut [u8],
+    first: &mut [u16],
+    second: &mut [u16],
+) -> Order
+    requires { ⌜ HeldPaths (now a) (now b) (now work) (now first) (now second) ⌝ }
+    ensures { λ r. ⌜ ((c d : Component) → now (a .entry) ≡ flat c → now (b .entry) ≡ flat d
+        → orderingOf r ≡ lexBy compareNumbers not true (path c) (path d)) ⌝ }
+{
+    let n = a.len();
+    let i = path_of(a, work, first);
+    let j = path_of(b, work, second);
+    compare_paths(&first[i..n], &second[j..n])
+}
+
+// Which of two components comes first: by number of points, and among equal numbers by generation order [document 004, Definition 14].
 pub fn compare_generated(a: &[u8], b: &[u8]) -> Order
     requires { ⌜ HeldPair (now a) (now b) ⌝ }
     ensures { λ r. ⌜ ((c d : Component) → now (a .entry) ≡ flat c → now (b .entry) ≡ flat d → orderingOf r ≡ compareGenerated c d) ⌝ }
 {
     let n = a.len();
+    if n < b.len() {
+        return Order::Less;
+    }
+    if b.len() < n {
+        return Order::Greater;
+    }
     let mut work = points_room();
     let mut first = blank_keys();
     let mut second = blank_keys();
-    let i = path_of(a, &mut work[..n], &mut first[..n]);
-    let j = path_of(b, &mut work[..n], &mut second[..n]);
-    compare_paths(&first[i..n], &second[j..n])
+    compare_by_paths(a, b, &mut work[..n], &mut first[..n], &mut second[..n])
 }

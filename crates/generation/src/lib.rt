@@ -4,9 +4,9 @@ use bytes::copy;
 use components::Climb;
 use components::at_most;
 use components::count;
+use components::has_least_rotation;
 use components::last_branch;
 use components::leading;
-use components::least_rotation;
 use components::parent;
 use lists::exchange;
 ghost use denote.Ref.{now};
@@ -61,7 +61,7 @@ pub fn left_child(s: &[u8], i: usize, out: &mut [u8]) -> bool
         return false;
     }
     merge_left(s, i, out);
-    least_rotation(out)
+    has_least_rotation(out)
 }
 
 // The right merge at `i`, where it is a child and not the left merge too.
@@ -77,7 +77,7 @@ pub fn right_child(s: &[u8], i: usize, out: &mut [u8]) -> bool
     let l = j + last_branch(&s[j..e]);
     if at_most(&s[l..e], &s[i..j]) {
         merge_right(s, i, out);
-        return least_rotation(out);
+        return has_least_rotation(out);
     }
     false
 }

@@ -54,8 +54,8 @@ returns c =
 merge-left-requires : tie.Need-merge-left-requires
 merge-left-requires c κs = search needs
 
-least-rotation-requires : tie.Need-least-rotation-requires
-least-rotation-requires c κs =
+has-least-rotation-requires : tie.Need-has-least-rotation-requires
+has-least-rotation-requires c κs =
     let at-merge-left = c .before .before .before in
     let start = at-merge-left .before .before .before .before .before .before .before .before .before .before in
     let p = start .pre in
@@ -73,7 +73,7 @@ returns-2 c =
     let p = start .pre in
     let h = sym (at-at-most .at-most .ensures) ∙ not-of-false (at-at-most .at-most .result) (at-if1 .if1 .left) in
     let m = at-merge-left .merge-left .ensures (p .this) (p .that) (p .after) (p .is) in
-    (λ d e. left-tested p d e h (c .least-rotation .result) _ (c .least-rotation .ensures (leftMerge p) m) m)
+    (λ d e. left-tested p d e h (c .has-least-rotation .result) _ (c .has-least-rotation .ensures (leftMerge p) m) m)
 
 pub left-child-spec : {M : Type 1} → statement M
 left-child-spec =
@@ -94,6 +94,6 @@ left-child-spec =
     at-most-requires
     returns
     merge-left-requires
-    least-rotation-requires
+    has-least-rotation-requires
     same-length
     returns-2)

@@ -107,8 +107,8 @@ at-most-requires-2 c κs = search needs
 merge-right-requires : tie.Need-merge-right-requires
 merge-right-requires c κs = search needs
 
-least-rotation-requires : tie.Need-least-rotation-requires
-least-rotation-requires c κs =
+has-least-rotation-requires : tie.Need-has-least-rotation-requires
+has-least-rotation-requires c κs =
     let at-merge-right = c .before .before .before in
     let start = at-merge-right .before .before .before .before .before .before .before .before .before .before .before .before .before .before .before .before in
     let p = start .pre in
@@ -132,7 +132,7 @@ returns-2 c =
     let f = sym (at-at-most2 .at-most2 .ensures) ∙ at-if2 .if2 .taken in
     let m = at-merge-right .merge-right .ensures (p .this) (p .that) (p .after) (p .is) in
     (λ d n e l.
-    right-tested p d e n l h (at-last-branch .last-branch .result) k f (c .least-rotation .result) _ (c .least-rotation .ensures (rightMerge p) m) m)
+    right-tested p d e n l h (at-last-branch .last-branch .result) k f (c .has-least-rotation .result) _ (c .has-least-rotation .ensures (rightMerge p) m) m)
 
 returns-3 : tie.Need-returns-3
 returns-3 c =
@@ -178,7 +178,7 @@ right-child-spec =
     part-at-most-end-4
     at-most-requires-2
     merge-right-requires
-    least-rotation-requires
+    has-least-rotation-requires
     same-length
     returns-2
     returns-3)
