@@ -18,7 +18,13 @@ use Rattle.patterns.specs.Entry.{gives, Replied, checkedTable, codeOfMap, mapOf
 use Rattle.memory.specs.Memory.{Holds}
 use Rattle.memory.specs.Memory.{HeldSystem}
 use Rattle.systems.specs.Held.{Wrote}
-use Rattle.systems.proofs.Parts.{length-numbers, held-points}
+use Rattle.memory.proofs.Parts.{length-numbers, held-points}
+use Rattle.mapping.specs.Images.{HeldMap}
+use Rattle.cycles.specs.Marks.{MarksAsked, Marked}
+use Rattle.coding.specs.Systems.{SystemAsked, SystemWritten}
+use Rattle.map_theory.proofs.MapOf.{length-mapOf}
+use Rattle.map_theory.proofs.Theorems.{table-canonical, table-weight}
+use Rattle.memory.proofs.Parts.{length-numbers, held-points}
 use Rattle.mapping.specs.Images.{HeldMap}
 use Rattle.cycles.specs.Marks.{MarksAsked, Marked}
 use Rattle.coding.specs.Systems.{SystemAsked, SystemWritten}

@@ -1,6 +1,6 @@
 -- Two tables with their codes and points: an isomorphism where the codes are equal, and none where they differ.
 use mathlib.Core.Path.{_≡_, refl, ap, sym, _∙_, subst}
-use mathlib.Core.Bool.{true, true≢false}
+use mathlib.Core.Bool.{true≢false}
 use mathlib.Core.List.{List, _++_}
 use Prim.Native.Nat.{ℕ, _≤_, _<_, Ordering·eq, compare}
 use native.Mathlib.Omega.{arith}
@@ -26,7 +26,9 @@ use Rattle.patterns.specs.Isomorphism.{Isomorphism}
 use Rattle.patterns.specs.Reading.{done, fault}
 use Rattle.patterns.specs.Replies.{Answer, lacking, refused, numberOf}
 use Rattle.patterns.specs.Entry.{gives, lacks, fails, checkedTable, IsomorphismReplied, first-refused, second-refused, found, lengths-differ, not-found}
-use Rattle.systems.proofs.WrittenBack.{written-equal}
+use Rattle.form_theory.proofs.WrittenBack.{written-equal}
+use Rattle.map_theory.proofs.MapOf.{length-mapOf, mapOf-table}
+use Rattle.form_theory.proofs.WrittenBack.{written-equal}
 use Rattle.map_theory.proofs.MapOf.{length-mapOf, mapOf-table}
 use Rattle.lists.proofs.Gathering.{perm-nodup}
 use Rattle.map_theory.proofs.Isomorphisms.{table-below, isomorphism-perm, isomorphism-below, isomorphism-through}

@@ -3,11 +3,8 @@
 use mathlib.Core.Path.{_≡_}
 use mathlib.Core.List.{List, _++_}
 use Prim.Native.Nat.{ℕ}
-use lib.ListN.{length, take, drop}
-use Rattle.patterns.specs.Replies.{CensusAnswer}
-use Rattle.patterns.specs.Entry.{CensusReplied}
+use lib.ListN.{take, drop}
 use Rattle.census.specs.declared.Rows.{Rows}
-use Rattle.patterns.specs.Census.{rowsOf}
 
 -- the first n rows fill the first places of both slices
 pub record ColumnsPut (rows : Rows) (n : ℕ) (lengths counts lengths′ counts′ : List ℕ) : Type 0 where

@@ -1,3 +1,4 @@
--- What stands where in memory, and a walk along the components of a system.
+-- What stands where in memory, a walk along the components of a system, and the laws of what lent slices hold.
 pub mod Standing
 pub mod SystemWalks
+pub mod Parts

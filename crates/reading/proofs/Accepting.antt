@@ -25,8 +25,8 @@ use Rattle.memory.specs.Memory.{Holds}
 use Rattle.memory.specs.Memory.{HeldSystem}
 use Rattle.reading.specs.Walking.{readComponent}
 use Rattle.reading.specs.Shape.{ended, shapeBody, shape, checked, acceptance, AcceptedInto, FirstNumbers}
-use Rattle.reading.proofs.Results.{Good, good-then, good-mapped, good-done}
-use Rattle.reading.proofs.Readback.{ComponentsOf, components-good}
+use Rattle.form_theory.proofs.Results.{Good, good-then, good-mapped, good-done}
+use Rattle.form_theory.proofs.ReadFrom.{ComponentsOf, components-good}
 use Rattle.reading.proofs.Gathering.{components-next, ComponentOf, component-good}
 use Rattle.reading.proofs.Checking.{length-gather-flat}
 use Rattle.reading.proofs.Whole.{read-shape, refused-into}

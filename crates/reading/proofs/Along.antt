@@ -16,8 +16,8 @@ use Rattle.patterns.proofs.Trees.{points-append}
 use Rattle.reading.specs.declared.Read.{Read}
 use Rattle.reading.specs.declared.Read.the-variants.{Past, Refused}
 use Rattle.reading.specs.Walking.{walked, walkedAll, readComponent}
-use Rattle.reading.proofs.Results.{mapped-none, mapped-more}
-use Rattle.reading.proofs.Readback.{tree-read}
+use Rattle.form_theory.proofs.Results.{mapped-none, mapped-more}
+use Rattle.form_theory.proofs.ReadFrom.{tree-read}
 use Rattle.reading.proofs.Walking.{drop-one}
 
 -- i of k trees have been read, from place `at` to place `next`, and `rest` points are left.

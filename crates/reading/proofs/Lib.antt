@@ -1,6 +1,4 @@
 -- The laws of reading, in plain terms; the proofs of the functions cite them.
-pub mod Results
-pub mod Readback
 pub mod Walking
 pub mod Narrowing
 pub mod Along

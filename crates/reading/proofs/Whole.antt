@@ -16,7 +16,7 @@ use Rattle.reading.specs.declared.Read.{Read}
 use Rattle.reading.specs.declared.Read.the-variants.{Past, Refused}
 use Rattle.reading.specs.declared.Accepted.the-variants.{System as Held, Refused as NotAccepted}
 use Rattle.reading.specs.Shape.{ended, shapeBody, shape, checked, walkedSystem, ReadInto, acceptance, AcceptedInto}
-use Rattle.reading.proofs.Readback.{components-read}
+use Rattle.form_theory.proofs.ReadFrom.{components-read}
 use Rattle.reading.proofs.Prefix.{components-take}
 
 -- a code that was read is the shape, and then the last check
