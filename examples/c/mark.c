@@ -145,17 +145,13 @@ static int64_t mark_line(char *line)
     return found == expected;
 }
 
-int main(int argc, char **argv)
+/* Marks every line and prints how many there were; answers the exit status. */
+static int mark_sheet(FILE *sheet)
 {
-    FILE *sheet = argc == 2 ? fopen(argv[1], "r") : NULL;
     char *line = NULL;
     size_t room = 0;
     ssize_t length;
     int number = 0, marked = 0, failed = 0, unreadable = 0;
-    if (!sheet) {
-        fprintf(stderr, argc == 2 ? "mark: the sheet cannot be read\n" : "usage: mark SHEET\n");
-        return 2;
-    }
     while ((length = getline(&line, &room, sheet)) >= 0) {
         number++;
         if (length > 0 && line[length - 1] == '\n')
@@ -171,12 +167,23 @@ int main(int argc, char **argv)
             failed += !as_expected;
         }
     }
-    if (ferror(sheet)) {
+    free(line);
+    printf("%d answers marked, %d marks not as expected, %d lines unreadable\n", marked, failed, unreadable);
+    return marked == 0 || failed != 0 || unreadable != 0;
+}
+
+int main(int argc, char **argv)
+{
+    if (argc != 2) {
+        fprintf(stderr, "usage: mark SHEET\n");
+        return 2;
+    }
+    FILE *sheet = fopen(argv[1], "r");
+    int status = sheet ? mark_sheet(sheet) : 2;
+    if (!sheet || ferror(sheet)) {
         fprintf(stderr, "mark: the sheet cannot be read\n");
         return 2;
     }
-    free(line);
     fclose(sheet);
-    printf("%d answers marked, %d marks not as expected, %d lines unreadable\n", marked, failed, unreadable);
-    return marked == 0 || failed != 0 || unreadable != 0;
+    return status;
 }

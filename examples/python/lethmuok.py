@@ -10,6 +10,8 @@ import os
 
 _HERE = os.path.dirname(os.path.abspath(__file__))
 _LIBRARY = os.environ.get("LETHMUOK_LIBRARY", os.path.join(_HERE, "..", "..", "target", "examples", "liblethmuok.so"))
+if not os.path.exists(_LIBRARY):
+    raise ImportError("there is no shared object %s: examples/python/run makes it, and LETHMUOK_LIBRARY may name another" % _LIBRARY)
 _c = ctypes.CDLL(_LIBRARY)
 
 CAUSES = {
