@@ -86,7 +86,8 @@ static void shapes(unsigned n)
     for (int shape = 0; shape < 8; shape++) {
         for (unsigned x = 0; x < n; x++) {
             unsigned before = x ? x - 1 : 0;
-            unsigned images[] = {before, (x + 1) % n, 0, x, before / 2, x < n / 2 ? before : x - n / 2, x % 2 ? x - 1 : (x + 1) % n, x < n / 2 ? before : x == n / 2 ? x : x - 1};
+            unsigned comb = x < n / 2 ? before : x - n / 2, pairs = x % 2 ? x - 1 : (x + 1) % n, two_paths = x == n / 2 ? x : before;
+            unsigned images[] = {before, (x + 1) % n, 0, x, before / 2, comb, pairs, two_paths};
             table[x] = (uint8_t)images[shape];
         }
         all_entries(n);
