@@ -83,11 +83,12 @@ static unsigned below(unsigned n)
 
 static void shapes(unsigned n)
 {
-    for (int shape = 0; shape < 8; shape++) {
+    for (int shape = 0; shape < 10; shape++) {
         for (unsigned x = 0; x < n; x++) {
             unsigned before = x ? x - 1 : 0;
             unsigned comb = x < n / 2 ? before : x - n / 2, pairs = x % 2 ? x - 1 : (x + 1) % n, two_paths = x == n / 2 ? x : before;
-            unsigned images[] = {before, (x + 1) % n, 0, x, before / 2, comb, pairs, two_paths};
+            unsigned fork = x == n - 1 ? n - 3 : before, doubled = x < 2 ? 0 : x - 2;
+            unsigned images[] = {before, (x + 1) % n, 0, x, before / 2, comb, pairs, two_paths, fork, doubled};
             table[x] = (uint8_t)images[shape];
         }
         all_entries(n);
