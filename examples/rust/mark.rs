@@ -51,7 +51,7 @@ fn bytes_in(text: &str) -> Result<Vec<u8>, Unreadable> {
     words.into_iter().map(|word| u8::try_from(number_in(word)?).map_err(|_| Unreadable)).collect()
 }
 
-/// The codes that a student says follow, and None where he says that the list has ended.
+/// The codes that the student says follow, and None for the end of the list.
 fn answers_in(text: &str) -> Result<Vec<Option<Vec<u8>>>, Unreadable> {
     text.split(',').map(|part| if part.trim_matches(' ') == "end" { Ok(None) } else { bytes_in(part).map(Some) }).collect()
 }

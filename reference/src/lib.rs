@@ -2,9 +2,9 @@
 //! Polynomial-delay generation of functional digraphs up to isomorphism), by the algorithm that it publishes. `tests/run` compares its answers with those of the
 //! engine, and `bench/run` times the two beside each other.
 //!
-//! How independent it is: it shares no code and no data structure with the engine, and its author had not read the engine's code or proofs. But he had read the
-//! same notes on how the definitions are to be read as the authors of the engine, so a misreading that stands in those notes would stand in both, and no
-//! comparison would show it. The published examples, lists and totals, which both are held against, guard against that.
+//! How independent it is: it shares no code and no data structure with the engine, and its author had not read the engine's code. But the author had read the same
+//! notes on the definitions and on how unclear places are read as the authors of the definitions, so a misreading that stands in those notes would stand in both, and
+//! no comparison would show it. The published examples, lists and totals, which both are held against, guard against that.
 //!
 //! A reply is a length or n, minus the number of the cause of a refusal, or one of [`LAST`] and [`NONE`].
 
