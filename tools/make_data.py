@@ -1,13 +1,16 @@
 #!/usr/bin/env python3
-"""make_data.py: writes the files of crates/checks/data anew, from tools/plain_listing.py and tools/plain_model.py. tools/README.md says what each file holds."""
-import contextlib
+"""make_data.py [--write]: makes the files of crates/checks/data anew, from tools/plain_listing.py and tools/plain_model.py. They go to target/checks-data and are
+compared with those in crates/checks/data; with --write they go there. tools/README.md says what each file holds."""
+import filecmp
 import os
 import sys
 
 import plain_listing
 import plain_model as model
 
-DATA = os.path.join(os.path.dirname(os.path.abspath(__file__)), "..", "crates", "checks", "data")
+TOP = os.path.join(os.path.dirname(os.path.realpath(__file__)), "..")
+KEPT = os.path.join(TOP, "crates", "checks", "data")
+MADE = KEPT if sys.argv[1:] == ["--write"] else os.path.join(TOP, "target", "checks-data")
 ACCEPT, FIRST, SUCCESSOR, CODE_OF_MAP, MAP_OF_CODE, ISOMORPHISM, CENSUS = range(1, 8)
 KINDS = {"length": 0, "last": 1, "none": 2, "refused": 3, "census": 0, "part": 0}
 WIDE = 1000
@@ -95,12 +98,16 @@ def component(code, position):
 
 
 def save(name, lines):
-    with open(os.path.join(DATA, name), "w") as out:
+    """Writes a file, a line of numbers each, and says whether it is the one that is kept."""
+    made, kept = os.path.join(MADE, name), os.path.join(KEPT, name)
+    with open(made, "w") as out:
         for line in lines:
             out.write(" ".join(map(str, line)) + "\n")
-    size = os.path.getsize(os.path.join(DATA, name))
+    size = os.path.getsize(made)
     assert size < 2**16, name
-    print(f"{name}: {len(lines)} lines, {size} bytes", file=sys.stderr)
+    same = os.path.exists(kept) and filecmp.cmp(made, kept, shallow=False)
+    print(f"{name}: {len(lines)} lines, {size} bytes" + ("" if same else ", not as in crates/checks/data"))
+    return same
 
 
 # ---- the sheet of examples, its answers as document 01 gives them
@@ -408,22 +415,17 @@ def pairs():
 
 
 def main():
-    os.makedirs(DATA, exist_ok=True)
-    for n in range(9):
-        sys.argv[1:] = [str(n)]
-        with open(os.path.join(DATA, f"listing_{n}"), "w") as out, contextlib.redirect_stdout(out):
-            plain_listing.main()
-    save("examples", examples())
-    save("damaged", damaged())
-    save("damaged_long", damaged_long())
-    save("reordered", reordered())
-    save("hostile", hostile())
-    save("rooms", rooms())
-    save("steps", steps())
-    save("codes", codes_of_maps())
-    save("census", [census(table) for _, table in shapes()])
-    save("components", components())
-    save("pairs", pairs())
+    if sys.argv[1:] not in ([], ["--write"]):
+        sys.exit("usage: make_data.py [--write]")
+    os.makedirs(MADE, exist_ok=True)
+    files = [(f"listing_{n}", [[line] for line in plain_listing.listing(n)]) for n in range(9)]
+    files += [("examples", examples()), ("damaged", damaged()), ("damaged_long", damaged_long()), ("reordered", reordered()), ("hostile", hostile())]
+    files += [("rooms", rooms()), ("steps", steps()), ("codes", codes_of_maps()), ("census", [census(table) for _, table in shapes()])]
+    files += [("components", components()), ("pairs", pairs())]
+    other = sum(not save(name, lines) for name, lines in files)
+    print(f"{len(files)} files in {os.path.relpath(MADE)}, {other} not as in crates/checks/data")
+    return 1 if other else 0
 
 
-main()
+if __name__ == "__main__":
+    sys.exit(main())

@@ -145,13 +145,20 @@ def numbers(n, system):
     return flat
 
 
-def main():
-    n = int(sys.argv[1])
-    print("n", n)
+def listing(n):
+    """The lines that the listing program writes."""
+    yield f"n {n}"
     total = 0
     for total, system in enumerate(systems(n), 1):
-        print(f"{total}:", *numbers(n, system))
-    print(total, "codes")
+        yield " ".join(map(str, [f"{total}:"] + numbers(n, system)))
+    yield f"{total} codes"
+
+
+def main():
+    if len(sys.argv) != 2 or not sys.argv[1].isdecimal():
+        sys.exit("usage: plain_listing.py N (a count of points)")
+    for line in listing(int(sys.argv[1])):
+        print(line)
 
 
 if __name__ == "__main__":

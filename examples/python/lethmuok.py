@@ -1,10 +1,17 @@
-"""The engine for Python programs, over the shared object that `run` makes of the static library. Maps and codes are bytes; what is refused raises Refused."""
+"""The engine for Python programs, over the shared object that `run` makes of the static library.
+
+Maps and codes are given as bytes or as any other sequence of numbers from 0 to 255, and come back as bytes. What the engine refuses raises Refused; a value
+that is no byte, or no count that C can hold, raises ValueError before the engine is called.
+"""
 
 import ctypes
+import operator
 import os
 
 _HERE = os.path.dirname(os.path.abspath(__file__))
 _LIBRARY = os.environ.get("LETHMUOK_LIBRARY", os.path.join(_HERE, "..", "..", "target", "examples", "liblethmuok.so"))
+if not os.path.exists(_LIBRARY):
+    raise ImportError("there is no shared object %s: examples/python/run makes it, and LETHMUOK_LIBRARY may name another" % _LIBRARY)
 _c = ctypes.CDLL(_LIBRARY)
 
 CAUSES = {
@@ -32,28 +39,48 @@ class Refused(ValueError):
         self.cause = cause
 
 
+def _number(value, limit, what):
+    """The value as a number, which must be from 0 to below the limit: ctypes would cut off what does not fit."""
+    try:
+        number = operator.index(value)
+    except TypeError:
+        number = -1
+    if not 0 <= number < limit:
+        raise ValueError("%r is no %s" % (value, what))
+    return number
+
+
+def _count(value):
+    return ctypes.c_size_t(_number(value, 2 ** (8 * ctypes.sizeof(ctypes.c_size_t)), "count"))
+
+
+def _room(count):
+    """A buffer of so many bytes. One byte more is allocated, so that its address is never null."""
+    return (ctypes.c_uint8 * count).from_buffer((ctypes.c_uint8 * (count + 1))())
+
+
+def _given(data):
+    """A buffer that holds the bytes."""
+    try:
+        values = [_number(value, 256, "byte") for value in data]
+    except TypeError:
+        raise ValueError("%r is no sequence of bytes" % (data,)) from None
+    buffer = _room(len(values))
+    buffer[:] = values
+    return buffer
+
+
 def _call(name, *arguments):
-    """Calls a function of the library: a number is passed as it is, a buffer as its address and its length."""
+    """Calls a function of the library: a count is passed as it is, a buffer as its address and its length."""
     flat = []
     for argument in arguments:
-        if isinstance(argument, int):
-            flat.append(ctypes.c_size_t(argument))
-        else:
-            flat += [argument, ctypes.c_size_t(len(argument))]
+        flat += [argument] if isinstance(argument, ctypes.c_size_t) else [argument, ctypes.c_size_t(len(argument))]
     function = getattr(_c, name)
     function.restype = ctypes.c_int64
     reply = function(*flat)
     if _LAST < reply < 0:
         raise Refused(-reply)
     return reply
-
-
-def _given(data):
-    return (ctypes.c_uint8 * len(data))(*data)
-
-
-def _room(count):
-    return (ctypes.c_uint8 * count)()
 
 
 def accept(code):
@@ -64,7 +91,7 @@ def accept(code):
 def first(n):
     """The first code in the list of n points."""
     out = _room(_MAX_CODE)
-    return bytes(out[: _call("lethmuok_first", n, out)])
+    return bytes(out[: _call("lethmuok_first", _count(n), out)])
 
 
 def successor(code):
@@ -96,13 +123,15 @@ def isomorphism(f, g):
 def census(table):
     """The number of cycles of each length that occurs, the height, and the longest cycle."""
     lengths, counts = _room(_MAX_ENTRIES), _room(_MAX_ENTRIES)
-    entries = _call("lethmuok_census", _given(table), lengths, counts)
+    given = _given(table)
+    entries = _call("lethmuok_census", given, lengths, counts)
     cycles = dict(zip(lengths[:entries], counts[:entries]))
-    return cycles, _call("lethmuok_height", _given(table)), _call("lethmuok_longest_cycle", _given(table))
+    return cycles, _call("lethmuok_height", given), _call("lethmuok_longest_cycle", given)
 
 
 def component(code, position):
     """The bytes of the component at a position, counted from 0."""
-    start = _call("lethmuok_component_start", _given(code), position)
-    end = _call("lethmuok_component_end", _given(code), position)
-    return bytes(code[start:end])
+    given = _given(code)
+    start = _call("lethmuok_component_start", given, _count(position))
+    end = _call("lethmuok_component_end", given, _count(position))
+    return bytes(given[start:end])

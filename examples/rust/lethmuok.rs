@@ -1,26 +1,33 @@
 //! The engine for Rust programs: safe functions over the static library. A buffer is a slice, and a reply an enum.
 
-/// Why an input was refused.
-#[derive(Clone, Copy, Debug, PartialEq, Eq)]
-pub enum Refusal {
-    /// a count of points, or the length of a table, is above 200
-    Count = 1,
-    /// a byte of a table is no point
-    Image = 2,
-    /// the bytes end before the code does
-    Truncated = 3,
-    /// a number of two bytes has a wrong second byte
-    NumberForm = 4,
-    /// the sizes in a code do not fit each other
-    Sizes = 5,
-    /// the sizes fit, but this is not the code of the pattern
-    NotCanonical = 6,
-    /// there are numbers after the code
-    Trailing = 7,
-    /// the output is shorter than the result
-    Room = 8,
-    /// the code has no component at that position
-    Position = 9,
+/// Makes the enum of causes, and the cause of a number, from one line for each.
+macro_rules! causes {
+    ($($name:ident = $number:literal, $meaning:literal;)*) => {
+        /// Why an input was refused.
+        #[derive(Clone, Copy, Debug, PartialEq, Eq)]
+        pub enum Refusal {
+            $(#[doc = $meaning] $name = $number,)*
+        }
+
+        fn refusal(number: i64) -> Option<Refusal> {
+            match number {
+                $($number => Some(Refusal::$name),)*
+                _ => None,
+            }
+        }
+    };
+}
+
+causes! {
+    Count = 1, "a count of points, or the length of a table, is above 200";
+    Image = 2, "a byte of a table is no point";
+    Truncated = 3, "the bytes end before the code does";
+    NumberForm = 4, "a number of two bytes has a wrong second byte";
+    Sizes = 5, "the sizes in a code do not fit each other";
+    NotCanonical = 6, "the sizes fit, but this is not the code of the pattern";
+    Trailing = 7, "there are numbers after the code";
+    Room = 8, "the output is shorter than the result";
+    Position = 9, "the code has no component at that position";
 }
 
 /// What every function answers. A result fills the first places of its buffer; with another reply than a number all buffers are kept.
@@ -31,7 +38,7 @@ pub enum Reply {
     /// no code follows in the list
     Last,
     /// there is no isomorphism
-    Nothing,
+    Lacking,
     Refused(Refusal),
 }
 
@@ -58,18 +65,10 @@ mod c {
 impl From<i64> for Reply {
     fn from(number: i64) -> Reply {
         match number {
-            -1 => Reply::Refused(Refusal::Count),
-            -2 => Reply::Refused(Refusal::Image),
-            -3 => Reply::Refused(Refusal::Truncated),
-            -4 => Reply::Refused(Refusal::NumberForm),
-            -5 => Reply::Refused(Refusal::Sizes),
-            -6 => Reply::Refused(Refusal::NotCanonical),
-            -7 => Reply::Refused(Refusal::Trailing),
-            -8 => Reply::Refused(Refusal::Room),
-            -9 => Reply::Refused(Refusal::Position),
             -100 => Reply::Last,
-            -101 => Reply::Nothing,
-            length => Reply::Number(usize::try_from(length).expect("the library has no other answers")),
+            -101 => Reply::Lacking,
+            length if length >= 0 => Reply::Number(length as usize),
+            other => Reply::Refused(refusal(-other).expect("the library has no other answers")),
         }
     }
 }
@@ -101,7 +100,7 @@ pub fn map_of_code(code: &[u8], out: &mut [u8]) -> Reply {
     unsafe { c::lethmuok_map_of_code(code.as_ptr(), code.len(), out.as_mut_ptr(), out.len()) }.into()
 }
 
-/// Writes an isomorphism from the map f to the map g, or says `Nothing`.
+/// Writes an isomorphism from the map f to the map g, or says `Lacking`.
 pub fn isomorphism(f: &[u8], g: &[u8], out: &mut [u8]) -> Reply {
     unsafe { c::lethmuok_isomorphism(f.as_ptr(), f.len(), g.as_ptr(), g.len(), out.as_mut_ptr(), out.len()) }.into()
 }

@@ -4,8 +4,10 @@
 mod lethmuok;
 
 use lethmuok::{Refusal, Reply, MAX_CODE};
-use std::fmt;
 use std::process::ExitCode;
+
+/// A line that is not of the form that a sheet has.
+struct Unreadable;
 
 enum Mark {
     Right,
@@ -13,12 +15,12 @@ enum Mark {
     Refused(Refusal),
 }
 
-impl fmt::Display for Mark {
-    fn fmt(&self, f: &mut fmt::Formatter) -> fmt::Result {
+impl Mark {
+    fn words(&self) -> String {
         match self {
-            Mark::Right => write!(f, "right"),
-            Mark::Wrong => write!(f, "wrong"),
-            Mark::Refused(cause) => write!(f, "refused {}", *cause as u8),
+            Mark::Right => "right".into(),
+            Mark::Wrong => "wrong".into(),
+            Mark::Refused(cause) => format!("refused {}", *cause as u8),
         }
     }
 }
@@ -31,8 +33,27 @@ fn right_if(test: bool) -> Mark {
     }
 }
 
-fn numbers_in(text: &str) -> Vec<u8> {
-    text.split_whitespace().map_while(|word| word.parse().ok()).collect()
+fn words_in(text: &str) -> Vec<&str> {
+    text.split(' ').filter(|word| !word.is_empty()).collect()
+}
+
+/// A number of one to three digits, without sign or leading zeros.
+fn number_in(word: &str) -> Result<u16, Unreadable> {
+    let digits = word.bytes().all(|b| b.is_ascii_digit()) && (1..=3).contains(&word.len()) && (word == "0" || !word.starts_with('0'));
+    word.parse().ok().filter(|_| digits).ok_or(Unreadable)
+}
+
+fn bytes_in(text: &str) -> Result<Vec<u8>, Unreadable> {
+    let words = words_in(text);
+    if words.len() > MAX_CODE {
+        return Err(Unreadable);
+    }
+    words.into_iter().map(|word| u8::try_from(number_in(word)?).map_err(|_| Unreadable)).collect()
+}
+
+/// The codes that the student says follow, and None for the end of the list.
+fn answers_in(text: &str) -> Result<Vec<Option<Vec<u8>>>, Unreadable> {
+    text.split(',').map(|part| if part.trim_matches(' ') == "end" { Ok(None) } else { bytes_in(part).map(Some) }).collect()
 }
 
 fn mark_code(table: &[u8], answer: &[u8]) -> Mark {
@@ -43,7 +64,7 @@ fn mark_code(table: &[u8], answer: &[u8]) -> Mark {
     match lethmuok::code_of_map(table, &mut code) {
         Reply::Number(length) => right_if(&code[..length] == answer),
         Reply::Refused(cause) => Mark::Refused(cause),
-        Reply::Last | Reply::Nothing => Mark::Wrong,
+        Reply::Last | Reply::Lacking => Mark::Wrong,
     }
 }
 
@@ -60,46 +81,73 @@ fn mark_map(code: &[u8], answer: &[u8]) -> Mark {
     }
 }
 
-fn mark_next(code: &[u8], answers: &str) -> Mark {
-    let mut code = code.to_vec();
-    let mut texts = answers.split(',');
-    while let Some(text) = texts.next() {
+fn mark_next(mut code: Vec<u8>, answers: &[Option<Vec<u8>>]) -> Mark {
+    for (i, answer) in answers.iter().enumerate() {
         let mut next = [0; MAX_CODE];
         match lethmuok::successor(&code, &mut next) {
-            Reply::Number(length) if next[..length] == numbers_in(text)[..] => code = next[..length].to_vec(),
-            Reply::Last => return right_if(text.trim() == "end" && texts.next().is_none()),
+            Reply::Number(length) if answer.as_deref() == Some(&next[..length]) => code = next[..length].to_vec(),
+            Reply::Last => return right_if(answer.is_none() && i + 1 == answers.len()),
             Reply::Refused(cause) => return Mark::Refused(cause),
-            Reply::Number(_) | Reply::Nothing => return Mark::Wrong,
+            Reply::Number(_) | Reply::Lacking => return Mark::Wrong,
         }
     }
     Mark::Right
 }
 
+/// The mark that a sheet names, with one space between its words.
+fn named_mark(text: &str) -> Result<String, Unreadable> {
+    match words_in(text)[..] {
+        [word @ ("right" | "wrong")] => Ok(word.into()),
+        ["refused", cause] if (1..100).contains(&number_in(cause)?) => Ok(format!("refused {cause}")),
+        _ => Err(Unreadable),
+    }
+}
+
 /// Prints the mark of one line; answers whether it is the expected one.
-fn mark_line(line: &str) -> bool {
-    let fields: Vec<&str> = line.split(':').collect();
-    let [question, given, answer, expected] = fields[..] else {
-        return false;
+fn mark_line(line: &[u8]) -> Result<bool, Unreadable> {
+    let parts: Vec<&str> = std::str::from_utf8(line).map_err(|_| Unreadable)?.split(':').collect();
+    let [question, given, answer, named] = parts[..] else {
+        return Err(Unreadable);
     };
+    let expected = named_mark(named)?;
     let mark = match question {
-        "code" => mark_code(&numbers_in(given), &numbers_in(answer)),
-        "map" => mark_map(&numbers_in(given), &numbers_in(answer)),
-        _ => mark_next(&numbers_in(given), answer),
+        "code" => mark_code(&bytes_in(given)?, &bytes_in(answer)?),
+        "map" => mark_map(&bytes_in(given)?, &bytes_in(answer)?),
+        "next" => mark_next(bytes_in(given)?, &answers_in(answer)?),
+        _ => return Err(Unreadable),
     };
-    let as_expected = mark.to_string() == expected.trim();
-    println!("{question}:{given}:{answer}: {mark}{}", if as_expected { "" } else { " (NOT as expected)" });
-    as_expected
+    let found = mark.words();
+    println!("{question}:{given}:{answer}: {found}{}", if found == expected { "" } else { " (NOT as expected)" });
+    Ok(found == expected)
 }
 
 fn main() -> ExitCode {
-    let Some(sheet) = std::env::args().nth(1).and_then(|name| std::fs::read_to_string(name).ok()) else {
+    let Some(name) = std::env::args_os().nth(1) else {
         eprintln!("usage: mark SHEET");
         return ExitCode::from(2);
     };
-    let marks: Vec<bool> = sheet.lines().filter(|line| !line.starts_with('#')).map(mark_line).collect();
-    let failed = marks.iter().filter(|as_expected| !**as_expected).count();
-    println!("{} answers marked, {failed} marks not as expected", marks.len());
-    if marks.is_empty() || failed != 0 {
+    let Ok(sheet) = std::fs::read(name) else {
+        eprintln!("mark: the sheet cannot be read");
+        return ExitCode::from(2);
+    };
+    let (mut marked, mut failed, mut unreadable) = (0, 0, 0);
+    for (i, line) in sheet.split(|byte| *byte == b'\n').enumerate() {
+        if line.is_empty() || line.starts_with(b"#") {
+            continue;
+        }
+        match mark_line(line) {
+            Ok(as_expected) => {
+                marked += 1;
+                failed += usize::from(!as_expected);
+            }
+            Err(Unreadable) => {
+                println!("line {}: unreadable", i + 1);
+                unreadable += 1;
+            }
+        }
+    }
+    println!("{marked} answers marked, {failed} marks not as expected, {unreadable} lines unreadable");
+    if marked == 0 || failed != 0 || unreadable != 0 {
         return ExitCode::FAILURE;
     }
     ExitCode::SUCCESS

@@ -1,4 +1,4 @@
-//! What is compared: the engine, through its static library, and the plain implementation, under one set of signatures; and the maps that both are given.
+//! What is compared: the engine, through its static library, and the reference implementation, under one set of signatures; and the maps that both are given.
 
 pub mod maps;
 pub mod random;
@@ -19,21 +19,21 @@ pub struct Side {
     pub component_end: fn(&[u8], usize) -> i64,
 }
 
-pub use plain::{LAST, NONE};
+pub use reference::{LAST, NONE};
 
-pub const PLAIN: Side = Side {
-    name: "plain",
-    accept: plain::accept,
-    first: plain::first,
-    successor: plain::successor,
-    code_of_map: plain::code_of_map,
-    map_of_code: plain::map_of_code,
-    isomorphism: plain::isomorphism,
-    census: plain::census,
-    height: plain::height,
-    longest_cycle: plain::longest_cycle,
-    component_start: plain::component_start,
-    component_end: plain::component_end,
+pub const REFERENCE: Side = Side {
+    name: "reference",
+    accept: reference::accept,
+    first: reference::first,
+    successor: reference::successor,
+    code_of_map: reference::code_of_map,
+    map_of_code: reference::map_of_code,
+    isomorphism: reference::isomorphism,
+    census: reference::census,
+    height: reference::height,
+    longest_cycle: reference::longest_cycle,
+    component_start: reference::component_start,
+    component_end: reference::component_end,
 };
 
 /// The C prototypes of the static library: a slice is a pointer, never null, and a count.
@@ -83,7 +83,7 @@ pub fn written(entry: impl FnOnce(&mut [u8]) -> i64) -> Result<Vec<u8>, i64> {
     Ok(out)
 }
 
-/// The code of a map, which must be one, by the plain implementation.
+/// The code of a map, which must be one, by the reference implementation.
 pub fn code_of(table: &[u8]) -> Vec<u8> {
-    written(|out| plain::code_of_map(table, out)).expect("a table")
+    written(|out| reference::code_of_map(table, out)).expect("a table")
 }

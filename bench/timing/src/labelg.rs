@@ -83,7 +83,7 @@ fn row(program: &str, kind: Kind, n: usize, pairs: usize, file: &Path) {
     std::fs::write(file, lines).expect("a file for labelg");
     let work = code_of_map(kind.0, tables.clone());
     assert!((work.agree)(), "the two sides differ: {}", kind.0);
-    let [engine, plain] = best(&work);
+    let [engine, reference] = best(&work);
     let runs = OPTIONS.iter().filter_map(|options| best_run(program, options, &tables, file));
     let labelg = match runs.min_by(f64::total_cmp) {
         None => "over the limit | |".into(),
@@ -92,7 +92,7 @@ fn row(program: &str, kind: Kind, n: usize, pairs: usize, file: &Path) {
             format!("{} | {:.4} |", digits(each), engine / each)
         }
     };
-    println!("| {} | {n} | {} | {} | {} | {labelg}", kind.0, work.calls, digits(engine), digits(plain));
+    println!("| {} | {n} | {} | {} | {} | {labelg}", kind.0, work.calls, digits(engine), digits(reference));
 }
 
 pub fn table() {
@@ -106,7 +106,7 @@ pub fn table() {
     );
     println!("invariant that nauty's guide advises for digraphs, and the better of the dense and the sparse form counts. A run of more than {LIMIT_SECONDS} seconds is");
     println!("ended. Equal forms stood exactly where the codes are equal.\n");
-    println!("| maps | points | calls | engine, µs a call | plain, µs a call | labelg, µs a map | engine / labelg |");
+    println!("| maps | points | calls | engine, µs a call | reference, µs a call | labelg, µs a map | engine / labelg |");
     println!("|---|---:|---:|---:|---:|---:|---:|");
     let file = PathBuf::from(std::env::args().nth(1).expect("a file for labelg"));
     for (n, pairs) in [(10, 2000), (20, 1000), (50, 500), (100, 200), (200, 100)] {

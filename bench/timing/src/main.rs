@@ -1,4 +1,4 @@
-//! Engine and plain implementation on the same work, in turn, and nauty's labelg on the part that it can do. Prints tables in Markdown.
+//! Engine and reference implementation on the same work, in turn, and nauty's labelg on the part that it can do. Prints tables in Markdown.
 //!
 //! Every time is the best of several rounds. What is timed is also compared; a difference ends the run.
 
@@ -7,7 +7,7 @@ mod labelg;
 mod work;
 
 use clock::own_seconds;
-use sides::{ENGINE, PLAIN};
+use sides::{ENGINE, REFERENCE};
 use work::Work;
 
 /// Each work is repeated so often, the two sides taking turns.
@@ -17,7 +17,7 @@ const ROUNDS: usize = 15;
 pub fn best(work: &Work) -> [f64; 2] {
     let mut best = [f64::INFINITY; 2];
     for _ in 0..ROUNDS {
-        for (best, side) in best.iter_mut().zip([&ENGINE, &PLAIN]) {
+        for (best, side) in best.iter_mut().zip([&ENGINE, &REFERENCE]) {
             let start = own_seconds();
             std::hint::black_box((work.run)(side));
             *best = best.min(own_seconds() - start);
@@ -37,13 +37,13 @@ pub fn digits(time: f64) -> String {
 
 fn row(work: &Work) {
     assert!((work.agree)(), "the two sides differ: {}", work.name);
-    let [engine, plain] = best(work);
-    println!("| {} | {} | {} | {} | {:.2} |", work.name, work.calls, digits(engine), digits(plain), engine / plain);
+    let [engine, reference] = best(work);
+    println!("| {} | {} | {} | {} | {:.2} |", work.name, work.calls, digits(engine), digits(reference), engine / reference);
 }
 
 fn table(title: &str, works: Vec<Work>) {
     println!("\n## {title}\n");
-    println!("| work | calls | engine, µs a call | plain, µs a call | engine / plain |");
+    println!("| work | calls | engine, µs a call | reference, µs a call | engine / reference |");
     println!("|---|---:|---:|---:|---:|");
     works.iter().for_each(row);
 }

@@ -2,7 +2,7 @@
 
 use sides::maps::{is_isomorphism, shuffled, uniform, Kind, KINDS};
 use sides::random::Random;
-use sides::{code_of, written, Side, ENGINE, PLAIN};
+use sides::{code_of, written, Side, ENGINE, REFERENCE};
 
 /// A work: what one side does of it, in so many calls, and whether both sides get the same.
 pub struct Work {
@@ -43,13 +43,13 @@ fn walks(name: String, starts: Vec<Vec<u8>>, steps: usize) -> Work {
     let all = std::rc::Rc::new(all);
     let same = all.clone();
     // Each walk ends with a call too, the one that is told "last", unless it is cut short.
-    let calls = all(&PLAIN, false).iter().map(|&(made, _)| if made < steps { made + 1 } else { made }).sum();
-    Work { name, calls, run: Box::new(move |side| all(side, false).len() as u64), agree: Box::new(move || same(&ENGINE, true) == same(&PLAIN, true)) }
+    let calls = all(&REFERENCE, false).iter().map(|&(made, _)| if made < steps { made + 1 } else { made }).sum();
+    Work { name, calls, run: Box::new(move |side| all(side, false).len() as u64), agree: Box::new(move || same(&ENGINE, true) == same(&REFERENCE, true)) }
 }
 
 /// All codes of n points.
 pub fn listing(n: usize) -> Work {
-    let first = written(|out| (PLAIN.first)(n, out)).expect("a first code");
+    let first = written(|out| (REFERENCE.first)(n, out)).expect("a first code");
     walks(format!("all codes of {n} points"), vec![first], usize::MAX)
 }
 
@@ -62,7 +62,7 @@ fn component(stretches: &[(usize, &[u8])]) -> Vec<u8> {
     }
     let bytes = |x: usize| if x < 128 { vec![x as u8] } else { vec![(x % 128 + 128) as u8, (x / 128) as u8] };
     let code: Vec<u8> = numbers.into_iter().flat_map(bytes).collect();
-    assert_eq!((PLAIN.accept)(&code), POINTS as i64);
+    assert_eq!((REFERENCE.accept)(&code), POINTS as i64);
     code
 }
 
@@ -107,12 +107,12 @@ fn calls<T: 'static>(name: &str, inputs: Vec<T>, call: fn(&Side, &T, &mut [u8]) 
             let mut out = [0; 1000];
             inputs.iter().map(|input| call(side, input, &mut out) as u64).sum()
         }),
-        agree: Box::new(move || same.iter().all(|input| good(input, [&answer(&ENGINE, input), &answer(&PLAIN, input)]))),
+        agree: Box::new(move || same.iter().all(|input| good(input, [&answer(&ENGINE, input), &answer(&REFERENCE, input)]))),
     }
 }
 
 pub fn code_of_map(name: &str, tables: Vec<Vec<u8>>) -> Work {
-    calls(name, tables, |side, table, out| (side.code_of_map)(table, out), |_, [engine, plain]| engine.is_ok() && engine == plain)
+    calls(name, tables, |side, table, out| (side.code_of_map)(table, out), |_, [engine, reference]| engine.is_ok() && engine == reference)
 }
 
 pub fn codes() -> Vec<Work> {
@@ -126,7 +126,7 @@ pub fn isomorphisms() -> Vec<Work> {
     let work = |name: &str, pairs: Vec<Pair>| {
         let good = |(f, g): &Pair, answers: [&Result<Vec<u8>, i64>; 2]| match answers {
             [Ok(r), Ok(s)] => is_isomorphism(f, g, r) && is_isomorphism(f, g, s),
-            [engine, plain] => engine == plain,
+            [engine, reference] => engine == reference,
         };
         calls(name, pairs, |side, (f, g), out| (side.isomorphism)(f, g, out), good)
     };
@@ -142,7 +142,7 @@ pub fn isomorphisms() -> Vec<Work> {
 
 /// The rest of the entries.
 pub fn others() -> Vec<Work> {
-    let equal = |_: &Vec<u8>, [engine, plain]: [&Result<Vec<u8>, i64>; 2]| engine == plain;
+    let equal = |_: &Vec<u8>, [engine, reference]: [&Result<Vec<u8>, i64>; 2]| engine == reference;
     let tables = tables(KINDS[0], 100);
     let codes: Vec<Vec<u8>> = tables.iter().map(|table| code_of(table)).collect();
     vec![

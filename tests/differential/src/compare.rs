@@ -1,7 +1,7 @@
 //! One call of both sides: the replies and the whole lent buffers, with the bytes around them, have to agree.
 
 use sides::maps::is_isomorphism;
-use sides::{Side, ENGINE, PLAIN};
+use sides::{Side, ENGINE, REFERENCE};
 use std::fmt::Write;
 
 pub const ENTRIES: [&str; 11] =
@@ -62,16 +62,16 @@ impl Comparison {
     }
 
     fn replies(&mut self, entry: &str, input: &[u8], call: impl Fn(&Side) -> i64) {
-        let (engine, plain) = (call(&ENGINE), call(&PLAIN));
-        self.count(entry, engine == plain, |text| write!(text, "engine {engine}, plain {plain}, input {input:?}").unwrap());
+        let (engine, reference) = (call(&ENGINE), call(&REFERENCE));
+        self.count(entry, engine == reference, |text| write!(text, "engine {engine}, reference {reference}, input {input:?}").unwrap());
     }
 
     fn buffers(&mut self, entry: &str, input: &[u8], room: usize, call: impl Fn(&Side, &mut [u8]) -> i64) {
-        let (mut by_engine, mut by_plain) = (Lent::new(room), Lent::new(room));
-        let (engine, plain) = (call(&ENGINE, by_engine.out()), call(&PLAIN, by_plain.out()));
-        self.count(entry, engine == plain && by_engine == by_plain, |text| {
-            let (e, p) = (by_engine.out(), by_plain.out());
-            write!(text, "engine {engine} {e:?}, plain {plain} {p:?}, room {room}, input {input:?}").unwrap()
+        let (mut by_engine, mut by_reference) = (Lent::new(room), Lent::new(room));
+        let (engine, reference) = (call(&ENGINE, by_engine.out()), call(&REFERENCE, by_reference.out()));
+        self.count(entry, engine == reference && by_engine == by_reference, |text| {
+            let (e, r) = (by_engine.out(), by_reference.out());
+            write!(text, "engine {engine} {e:?}, reference {reference} {r:?}, room {room}, input {input:?}").unwrap()
         });
     }
 
@@ -113,11 +113,11 @@ impl Comparison {
     pub fn isomorphism(&mut self, f: &[u8], g: &[u8], room: usize) {
         let mut lent = Lent::new(room);
         let engine = (ENGINE.isomorphism)(f, g, lent.out());
-        let plain = (PLAIN.isomorphism)(f, g, Lent::new(room).out());
+        let reference = (REFERENCE.isomorphism)(f, g, Lent::new(room).out());
         let written = lent.only_first(engine.max(0) as usize);
         let good = written.is_some_and(|r| engine < 0 || is_isomorphism(f, g, r));
-        self.count("isomorphism", engine == plain && good, |text| {
-            write!(text, "engine {engine}, plain {plain}, written {written:?}, room {room}, maps {f:?} {g:?}").unwrap()
+        self.count("isomorphism", engine == reference && good, |text| {
+            write!(text, "engine {engine}, reference {reference}, written {written:?}, room {room}, maps {f:?} {g:?}").unwrap()
         });
     }
 
@@ -132,8 +132,8 @@ impl Comparison {
             rows.iter_mut().for_each(|rows| rows.sort());
             (reply, rows)
         };
-        let (engine, plain) = (rows(&ENGINE), rows(&PLAIN));
-        let good = engine == plain && engine.1.is_some();
-        self.count("census", good, |text| write!(text, "engine {engine:?}, plain {plain:?}, rooms {room} {other}, map {table:?}").unwrap());
+        let (engine, reference) = (rows(&ENGINE), rows(&REFERENCE));
+        let good = engine == reference && engine.1.is_some();
+        self.count("census", good, |text| write!(text, "engine {engine:?}, reference {reference:?}, rooms {room} {other}, map {table:?}").unwrap());
     }
 }

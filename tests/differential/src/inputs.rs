@@ -2,7 +2,7 @@
 
 use crate::compare::Comparison;
 use sides::random::Random;
-use sides::{written, PLAIN};
+use sides::{written, REFERENCE};
 
 /// Rooms around the length of a result; a refused call gets some all the same.
 fn rooms(result: &Result<Vec<u8>, i64>) -> Vec<usize> {
@@ -16,10 +16,10 @@ fn rooms(result: &Result<Vec<u8>, i64>) -> Vec<usize> {
 /// A code, good or bad, to every entry that takes one.
 pub fn code(comparison: &mut Comparison, code: &[u8]) {
     comparison.accept(code);
-    for room in rooms(&written(|out| (PLAIN.successor)(code, out))) {
+    for room in rooms(&written(|out| (REFERENCE.successor)(code, out))) {
         comparison.successor(code, room);
     }
-    for room in rooms(&written(|out| (PLAIN.map_of_code)(code, out))) {
+    for room in rooms(&written(|out| (REFERENCE.map_of_code)(code, out))) {
         comparison.map_of_code(code, room);
     }
     let components = code.get(1).map_or(0, |&m| m as usize);
@@ -30,7 +30,7 @@ pub fn code(comparison: &mut Comparison, code: &[u8]) {
 
 /// A table, good or bad, to every entry that takes one.
 pub fn table(comparison: &mut Comparison, table: &[u8]) {
-    for room in rooms(&written(|out| (PLAIN.code_of_map)(table, out))) {
+    for room in rooms(&written(|out| (REFERENCE.code_of_map)(table, out))) {
         comparison.code_of_map(table, room);
     }
     census(comparison, table);
@@ -40,7 +40,7 @@ pub fn table(comparison: &mut Comparison, table: &[u8]) {
 
 /// The two lists of a census with every shape of room.
 fn census(comparison: &mut Comparison, table: &[u8]) {
-    let rows = (PLAIN.census)(table, &mut [0; 200], &mut [0; 200]).max(1) as usize;
+    let rows = (REFERENCE.census)(table, &mut [0; 200], &mut [0; 200]).max(1) as usize;
     for (room, other) in [(rows, rows), (rows - 1, rows), (rows, rows - 1), (19, 19), (0, 30)] {
         comparison.census(table, room, other);
     }
@@ -48,7 +48,7 @@ fn census(comparison: &mut Comparison, table: &[u8]) {
 
 /// Two tables, good or bad, in both orders.
 pub fn two_tables(comparison: &mut Comparison, f: &[u8], g: &[u8]) {
-    for room in rooms(&written(|out| (PLAIN.isomorphism)(f, g, out))) {
+    for room in rooms(&written(|out| (REFERENCE.isomorphism)(f, g, out))) {
         comparison.isomorphism(f, g, room);
         comparison.isomorphism(g, f, room);
     }

@@ -1,4 +1,4 @@
-//! The engine, through its static library, against the plain implementation. The inputs are the same in every run.
+//! The engine, through its static library, against the reference implementation. The inputs are the same in every run.
 //!
 //! It is given the directory of the cases of `tools/plain_model.py`, prints the number of calls of each entry, and fails if an answer differs.
 
@@ -9,7 +9,7 @@ mod model;
 use compare::{Comparison, ENTRIES};
 use sides::maps::{shuffled, small_components, uniform, KINDS};
 use sides::random::Random;
-use sides::{code_of, written, PLAIN};
+use sides::{code_of, written, REFERENCE};
 use std::path::Path;
 use std::process::ExitCode;
 
@@ -18,8 +18,8 @@ const LEAST_CALLS: u64 = 1_000_000;
 
 /// All codes of n points.
 fn codes(n: usize) -> Vec<Vec<u8>> {
-    let mut found = vec![written(|out| (PLAIN.first)(n, out)).expect("a first code")];
-    while let Ok(code) = written(|out| (PLAIN.successor)(&found[found.len() - 1], out)) {
+    let mut found = vec![written(|out| (REFERENCE.first)(n, out)).expect("a first code")];
+    while let Ok(code) = written(|out| (REFERENCE.successor)(&found[found.len() - 1], out)) {
         found.push(code);
     }
     found
@@ -28,7 +28,7 @@ fn codes(n: usize) -> Vec<Vec<u8>> {
 /// Every count up to some above 200, and huge ones, with rooms around the length.
 fn firsts(comparison: &mut Comparison) {
     for n in (0..=300).chain([1000, 65_536, usize::MAX - 1, usize::MAX]) {
-        let length = written(|out| (PLAIN.first)(n, out)).map_or(2, |code| code.len());
+        let length = written(|out| (REFERENCE.first)(n, out)).map_or(2, |code| code.len());
         for room in [0, length - 1, length, length + 1, 1000] {
             comparison.first(n, room);
         }
@@ -124,7 +124,7 @@ fn steps(comparison: &mut Comparison, random: &mut Random, rounds: usize) {
             for _ in 0..60 {
                 comparison.accept(&code);
                 comparison.successor(&code, 1000);
-                let Ok(next) = written(|out| (PLAIN.successor)(&code, out)) else { break };
+                let Ok(next) = written(|out| (REFERENCE.successor)(&code, out)) else { break };
                 code = next;
             }
         }

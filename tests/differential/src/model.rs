@@ -2,7 +2,7 @@
 
 use crate::compare::Comparison;
 use sides::maps::is_isomorphism;
-use sides::{written, Side, ENGINE, LAST, NONE, PLAIN};
+use sides::{written, Side, ENGINE, LAST, NONE, REFERENCE};
 use std::fmt::Write;
 use std::path::Path;
 
@@ -65,7 +65,7 @@ fn case(comparison: &mut Comparison, line: &str) {
     let (kind, value) = (words.number(), words.number() as i64);
     let reply = [value, LAST, NONE, -value][kind];
     let expected = (reply, words.list().1);
-    for side in [&ENGINE, &PLAIN] {
+    for side in [&ENGINE, &REFERENCE] {
         let got = answer(side, entry, room, &first, &second);
         comparison.count(NAMES[entry], got == expected, |text| write!(text, "{} {got:?}, model {expected:?}, case {line}", side.name).unwrap());
     }
@@ -75,7 +75,7 @@ fn case(comparison: &mut Comparison, line: &str) {
 fn pair(comparison: &mut Comparison, line: &str) {
     let mut words = Line(line.split_whitespace());
     let (f, g) = (words.list().1, words.list().1);
-    for side in [&ENGINE, &PLAIN] {
+    for side in [&ENGINE, &REFERENCE] {
         let got = written(|out| (side.isomorphism)(&f, &g, out));
         let good = got.as_ref().is_ok_and(|r| is_isomorphism(&f, &g, r));
         comparison.count("isomorphism", good, |text| write!(text, "{} {got:?}, case {line}", side.name).unwrap());
@@ -84,7 +84,7 @@ fn pair(comparison: &mut Comparison, line: &str) {
 
 /// A whole listing: a header, numbered codes, the total.
 fn listing(comparison: &mut Comparison, n: usize, text: &str) {
-    for side in [&ENGINE, &PLAIN] {
+    for side in [&ENGINE, &REFERENCE] {
         let mut code = written(|out| (side.first)(n, out));
         let mut entry = "first";
         for line in text.lines().skip(1) {

@@ -1,0 +1,115 @@
+/* Measures how much stack each entry takes: it is called on a stack of its own that is painted before, on maps of 200 points and their codes, and the deepest
+ * byte that has lost its paint is looked for. Prints the most for each entry, and fails where that is not less than the header says. */
+#include <stdio.h>
+#include <string.h>
+#include <ucontext.h>
+
+#include "lethmuok.h"
+
+enum { STACK = 1 << 20, SAID = 64 * 1024, PAINT = 0xA5, RANDOM_MAPS = 300 };
+
+static uint8_t stack[STACK], table[200], other[200], code[1000], out[1000], counts[1000];
+static size_t table_len, code_len;
+static ucontext_t here, there;
+static uint8_t *top;
+
+static void accept(void) { lethmuok_accept(code, code_len); }
+static void first(void) { lethmuok_first(table_len, out, sizeof out); }
+static void successor(void) { lethmuok_successor(code, code_len, out, sizeof out); }
+static void code_of_map(void) { lethmuok_code_of_map(table, table_len, out, sizeof out); }
+static void map_of_code(void) { lethmuok_map_of_code(code, code_len, out, sizeof out); }
+static void isomorphism(void) { lethmuok_isomorphism(table, table_len, other, table_len, out, sizeof out); }
+static void census(void) { lethmuok_census(table, table_len, out, sizeof out, counts, sizeof counts); }
+static void height(void) { lethmuok_height(table, table_len); }
+static void longest_cycle(void) { lethmuok_longest_cycle(table, table_len); }
+static void component_start(void) { lethmuok_component_start(code, code_len, 0); }
+static void component_end(void) { lethmuok_component_end(code, code_len, 0); }
+
+static struct entry {
+    const char *name;
+    void (*call)(void);
+    size_t most;
+} entries[] = {
+    {"accept", accept, 0}, {"first", first, 0}, {"successor", successor, 0}, {"code_of_map", code_of_map, 0}, {"map_of_code", map_of_code, 0},
+    {"isomorphism", isomorphism, 0}, {"census", census, 0}, {"height", height, 0}, {"longest_cycle", longest_cycle, 0},
+    {"component_start", component_start, 0}, {"component_end", component_end, 0},
+};
+enum { ENTRIES = sizeof entries / sizeof entries[0] };
+
+static struct entry *called;
+
+static void on_the_stack(void)
+{
+    uint8_t mark;
+    top = &mark;
+    called->call();
+}
+
+static void measure(struct entry *e)
+{
+    memset(stack, PAINT, sizeof stack);
+    called = e;
+    getcontext(&there);
+    there.uc_stack.ss_sp = stack;
+    there.uc_stack.ss_size = sizeof stack;
+    there.uc_link = &here;
+    makecontext(&there, on_the_stack, 0);
+    swapcontext(&here, &there);
+    size_t low = 0;
+    while (stack[low] == PAINT)
+        low++;
+    size_t used = (size_t)(top - (stack + low));
+    if (used > e->most)
+        e->most = used;
+}
+
+/* Calls every entry on the map that stands in `table`, on a copy of it with the points counted backwards, and on its code. */
+static void all_entries(size_t n)
+{
+    table_len = n;
+    for (size_t x = 0; x < n; x++)
+        other[n - 1 - x] = (uint8_t)(n - 1 - table[x]);
+    code_len = (size_t)lethmuok_code_of_map(table, n, code, sizeof code);
+    for (size_t i = 0; i < ENTRIES; i++)
+        measure(&entries[i]);
+}
+
+static unsigned below(unsigned n)
+{
+    static uint32_t state = 1;
+    state = state * 1103515245u + 12345u;
+    return (state >> 8) % n;
+}
+
+static void shapes(unsigned n)
+{
+    for (int shape = 0; shape < 10; shape++) {
+        for (unsigned x = 0; x < n; x++) {
+            unsigned before = x ? x - 1 : 0;
+            unsigned comb = x < n / 2 ? before : x - n / 2, pairs = x % 2 ? x - 1 : (x + 1) % n, two_paths = x == n / 2 ? x : before;
+            unsigned fork = x == n - 1 ? n - 3 : before, doubled = x < 2 ? 0 : x - 2;
+            unsigned images[] = {before, (x + 1) % n, 0, x, before / 2, comb, pairs, two_paths, fork, doubled};
+            table[x] = (uint8_t)images[shape];
+        }
+        all_entries(n);
+    }
+}
+
+int main(void)
+{
+    shapes(200);
+    shapes(128);
+    for (int i = 0; i < RANDOM_MAPS; i++) {
+        unsigned n = 1 + below(200), kind = below(3);
+        for (unsigned x = 0; x < n; x++)
+            table[x] = (uint8_t)(kind == 0 ? below(n) : kind == 1 ? below(x + 1) : x ? x - 1 - below(x < 3 ? x : 3) : 0);
+        all_entries(n);
+    }
+    size_t most = 0;
+    for (size_t i = 0; i < ENTRIES; i++) {
+        printf("%-16s %6zu bytes of stack\n", entries[i].name, entries[i].most);
+        most = entries[i].most > most ? entries[i].most : most;
+    }
+    printf("%-16s %6zu bytes of stack\n", "at most", most);
+    return most >= SAID;
+}
