@@ -1,7 +1,7 @@
 -- The laws of the census's walks, counts and rows, in plain terms; the proofs of the functions cite them.
 pub mod CensusRows
 pub mod Counting
-pub mod Listing
+pub mod RowsListed
 pub mod Filling
 pub mod Maxima
 pub mod Points

@@ -4,14 +4,14 @@ use patterns::Row;
 ghost use denote.Ref.{now};
 ghost use mathlib.Core.Path.{_≡_};
 ghost use mathlib.Core.Bool.{true};
-ghost use mathlib.Core.List.{_++_, map};
-ghost use Prim.Native.Nat.{_<_, _≤_};
+ghost use mathlib.Core.List.{List, _++_, map};
+ghost use Prim.Native.Nat.{ℕ, _<_, _≤_};
 ghost use lib.ListN.{length, take, drop, replicate};
 ghost use Rattle.patterns.specs.Table.{image, isTable};
-ghost use Rattle.patterns.specs.Census.{stepsToCycle, height as heightOf, greatest as greatestOf};
+ghost use Rattle.patterns.specs.Census.{stepsToCycle, height as heightOf, longestCycle as longestOf, greatest as greatestOf};
 ghost use Rattle.cycles.specs.Marks.{Marked, MarkedPoint};
 ghost use Rattle.census.specs.Counts.{Blank, Counts};
-ghost use Rattle.census.specs.Rows.{Room, Listed, CensusOf};
+ghost use Rattle.census.specs.Rows.{RowsRoom, Listed, RowsOf, CensusOf};
 ghost use Rattle.patterns.specs.Census.{rowsOf};
 ghost use Rattle.patterns.specs.Replies.{rowOf};
 ghost use Rattle.census.specs.Entries.{rowIn};
@@ -21,6 +21,11 @@ pub struct Rows {
     pub lengths: [u8; 19],
     pub counts: [u8; 19],
     pub rows: usize,
+}
+
+// The rows of a census, the greatest distance of a point from its cycle, and the longest cycle.
+pub struct Measured {
+    pub rows: Rows,
     pub height: usize,
     pub longest: usize,
 }
@@ -38,16 +43,16 @@ fn count_cycles(f: &[u8], marks: &[u8], counts: &mut [u8])
     }
 }
 
-// The rows of a table of counts, by rising length.
-fn list_rows(table: &[u8], lengths: &mut [u8], counts: &mut [u8]) -> usize
-    requires { ⌜ Room (now table) (now lengths) (now counts) ⌝ }
-    ensures { λ r. ⌜ Listed (now (table .entry)) (now (lengths .entry)) (now (counts .entry)) r (now (lengths .exit)) (now (counts .exit)) ⌝ }
+// The rows of a list that has the number of cycles of each length, by rising length.
+fn list_rows(tallies: &[u8], lengths: &mut [u8], counts: &mut [u8]) -> usize
+    requires { ⌜ RowsRoom (now tallies) (now lengths) (now counts) ⌝ }
+    ensures { λ r. ⌜ Listed (now (tallies .entry)) (now (lengths .entry)) (now (counts .entry)) r (now (lengths .exit)) (now (counts .exit)) ⌝ }
 {
-    let top = table.len() - 1;
+    let top = tallies.len() - 1;
     let mut rows = 0;
     let mut l = 1;
     while l <= top {
-        let count = table[l];
+        let count = tallies[l];
         if count != 0 {
             lengths[rows] = l as u8;
             counts[rows] = count;
@@ -117,20 +122,41 @@ fn no_rows() -> [u8; 19]
     [0u8; 19]
 }
 
-// The census of the table `f` with its marks; `table` has a place for the count of each length.
-fn take_census(f: &[u8], marks: &[u8], table: &mut [u8]) -> Rows
-    requires { ⌜ Blank (now f) (now marks) (now table) ⌝ }
-    ensures { λ r. ⌜ CensusOf (now (f .entry)) r ⌝ }
+// The rows of the table `f` with its marks; `tallies` has a place for the count of each length.
+fn rows_of(f: &[u8], marks: &[u8], tallies: &mut [u8]) -> Rows
+    requires { ⌜ Blank (now f) (now marks) (now tallies) ⌝ }
+    ensures { λ r. ⌜ RowsOf (now (f .entry)) r ⌝ }
 {
     let mut lengths = no_rows();
     let mut counts = no_rows();
-    count_cycles(f, marks, table);
-    let rows = list_rows(table, &mut lengths[..19], &mut counts[..19]);
-    let longest = greatest(&lengths[..rows]);
-    let height = height(f, marks);
+    count_cycles(f, marks, tallies);
+    let rows = list_rows(tallies, &mut lengths[..19], &mut counts[..19]);
     Rows {
         lengths,
         counts,
+        rows,
+    }
+}
+
+// The longest cycle: the greatest length that has a row.
+fn longest(rows: Rows) -> usize
+    requires { ⌜ rows .rows ≤ 19 ⌝ }
+    ensures { λ r. ⌜ ((f : List ℕ) → RowsOf f rows → r ≡ longestOf (length f) (image f)) ⌝ }
+{
+    let lengths = rows.lengths;
+    let n = rows.rows;
+    greatest(&lengths[..n])
+}
+
+// The census of the table `f` with its marks.
+fn marked_census(f: &[u8], marks: &[u8], tallies: &mut [u8]) -> Measured
+    requires { ⌜ Blank (now f) (now marks) (now tallies) ⌝ }
+    ensures { λ r. ⌜ CensusOf (now (f .entry)) r ⌝ }
+{
+    let rows = rows_of(f, marks, tallies);
+    let height = height(f, marks);
+    let longest = longest(rows);
+    Measured {
         rows,
         height,
         longest,
@@ -138,15 +164,15 @@ fn take_census(f: &[u8], marks: &[u8], table: &mut [u8]) -> Rows
 }
 
 // The census of the table `f`, which has at most 200 points.
-pub fn census(f: &[u8]) -> Rows
+pub fn census(f: &[u8]) -> Measured
     requires { ⌜ (isTable (now f) ≡ true) × (length (now f) ≤ 200) ⌝ }
     ensures { λ r. ⌜ CensusOf (now (f .entry)) r ⌝ }
 {
     let n = f.len();
     let mut marks = no_points();
-    let mut table = no_points();
+    let mut tallies = no_points();
     cycles::mark_cycles(f, &mut marks[..n]);
-    take_census(f, &marks[..n], &mut table[..n + 1])
+    marked_census(f, &marks[..n], &mut tallies[..n + 1])
 }
 
 // Row `i` of a census.

@@ -26,22 +26,22 @@ mark-cycles-requires c κs = record { table = c .before .before .before .before 
 array-share-prefix-marks : tie.Need-array-share-prefix-marks
 array-share-prefix-marks c = rw length-append (omega (arith, c .before .mark-cycles .ensures .same))
 
-slice-aggregate-take-census : tie.Need-slice-aggregate-take-census
-slice-aggregate-take-census c =
+slice-aggregate-marked-census : tie.Need-slice-aggregate-marked-census
+slice-aggregate-marked-census c =
     let marked = c .before .before .mark-cycles .ensures in
     sym (ap length (marks-back marked _) ∙ marked .same)
 
-add-table : tie.Need-add-table
-add-table c = search needs
+add-tallies : tie.Need-add-tallies
+add-tallies c = search needs
 
-array-borrow-prefix-table : tie.Need-array-borrow-prefix-table
-array-borrow-prefix-table c = search needs
+array-borrow-prefix-tallies : tie.Need-array-borrow-prefix-tallies
+array-borrow-prefix-tallies c = search needs
 
-slice-aggregate-take-census-2 : tie.Need-slice-aggregate-take-census-2
-slice-aggregate-take-census-2 c = sym (zeros-length 201 (length (now (c .before .before .before .before .before .before .before .before .args .f)) + 1) (c .before .before .before .before .before .no-points2 .ensures) (omega arith))
+slice-aggregate-marked-census-2 : tie.Need-slice-aggregate-marked-census-2
+slice-aggregate-marked-census-2 c = sym (zeros-length 201 (length (now (c .before .before .before .before .before .before .before .before .args .f)) + 1) (c .before .before .before .before .before .no-points2 .ensures) (omega arith))
 
-take-census-requires : tie.Need-take-census-requires
-take-census-requires c κs =
+marked-census-requires : tie.Need-marked-census-requires
+marked-census-requires c κs =
     let marked = c .before .before .before .mark-cycles .ensures in
     record {
       table = c .before .before .before .before .before .before .before .before .pre .0;
@@ -63,9 +63,9 @@ census-spec =
     slice-aggregate-mark-cycles
     mark-cycles-requires
     array-share-prefix-marks
-    slice-aggregate-take-census
-    add-table
-    array-borrow-prefix-table
-    slice-aggregate-take-census-2
-    take-census-requires
+    slice-aggregate-marked-census
+    add-tallies
+    array-borrow-prefix-tallies
+    slice-aggregate-marked-census-2
+    marked-census-requires
     returns)
