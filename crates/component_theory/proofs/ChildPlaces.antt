@@ -15,17 +15,16 @@ use Rattle.lists.specs.Order.{atMost}
 use Rattle.lists.specs.Select.{gather, range, place, first}
 use Rattle.lists.proofs.Tests.{by-test, no-both, is-false}
 use Rattle.lists.proofs.Comparison.{eq-atMost, atMost-anti, atMost-self, atMost-turned}
-use Rattle.lists.proofs.Members.{lawful-decides}
 use Rattle.lists.proofs.Follow.{otherwise, first-append}
 use Rattle.patterns.specs.Tree.{Tree, point, merge, compareTree, lastAtMost}
 use Rattle.patterns.specs.Component.{Component, compareComponent, validComponent}
 use Rattle.patterns.specs.Generation.{hasParent, parent, leftMerges, rightMerges, candidates, isChild}
-use Rattle.patterns.proofs.Trees.{compareTree-lawful, compareComponent-lawful}
+use Rattle.patterns.proofs.Trees.{compareTree-lawful}
 use Rattle.component_theory.specs.ChildPlaces.{childAt, childFrom}
 use Rattle.component_theory.specs.Successor.{firstChild, nextSibling}
 use Rattle.lists.proofs.Passing.{once-keep, once-next}
 use Rattle.component_theory.proofs.Lemma8.{nonempty-append}
-use Rattle.component_theory.proofs.Children.{mergesBy, merge-right, left-by, right-by, child-candidate, children-candidate}
+use Rattle.component_theory.proofs.Children.{component-decides, mergesBy, merge-right, left-by, right-by, child-candidate, children-candidate}
 use Rattle.component_theory.specs.Path.{key}
 use Rattle.component_theory.proofs.Keys.{isLeast, length-merges, left-place, right-place, left-child, right-child, point-not-merge, and-right, left-candidate-place, right-candidate-place}
 
@@ -34,7 +33,7 @@ pub firstChild-place : (c : Component) → firstChild c ≡ childFrom c 0
 unfolding firstChild childFrom
 firstChild-place c =
     let e : length (candidates c) ≡ length (candidates c) - 0 = omega arith in
-    ap first (once-keep (lawful-decides compareComponent-lawful) (isChild c) [] (candidates c))
+    ap first (once-keep component-decides (isChild c) [] (candidates c))
     ∙ ap (λ n. first (gather (childAt c) (range 0 n))) e
 
 -- the next sibling is the first child of the parent from the place after the key on
@@ -42,7 +41,7 @@ pub nextSibling-place : (d : Component) → validComponent d ≡ true → hasPar
 unfolding nextSibling childFrom
 nextSibling-place d v h =
     let r = children-candidate (parent d) d (child-candidate d v h) in
-    rw h (once-next (lawful-decides compareComponent-lawful) (isChild (parent d)) [] (r .0) (r .1))
+    rw h (once-next component-decides (isChild (parent d)) [] (r .0) (r .1))
 
 -- from the end on there is no child
 pub childFrom-end : (c : Component) (k : ℕ) → length (candidates c) ≤ k → childFrom c k ≡ none
@@ -199,7 +198,7 @@ not-leading zero q b x y s e h = omega arith
 not-leading (suc j) q [] x y s e h = point-not-merge x y (head-eq-of-cons-eq e)
 not-leading (suc j) q (z ∷ b) x y s e h = not-leading j q b x y s (tail-eq-of-cons-eq e) (omega arith)
 
--- K2: behind the leftmost tree of more than one point there is no child
+-- behind the leftmost tree of more than one point there is no child
 pub childAt-late : (c b : Component) (x y : Tree) (s : Component) (n i : ℕ) → c ≡ b ++ (merge x y ∷ s) → length c ≡ suc n → length b < i → i < n
     → (childAt c i ≡ []) × (childAt c (n + i) ≡ [])
 childAt-late c b x y s n i e l h k =
@@ -226,7 +225,7 @@ points-pair (suc (suc h)) zero q l = (replicate h point ++ q, refl)
 points-pair (suc (suc h)) (suc i) q l = let s = points-pair (suc h) i q (omega arith) in (s .0, ap (λ k. point ∷ k) (s .1))
 
 module _ (c : Component) (v : validComponent c ≡ true) (n : ℕ) (l : length c ≡ suc n) where
-  -- K3: a right merge of two points is their left merge
+  -- a right merge of two points is their left merge
   pub childAt-points : (h i : ℕ) (q : Component) → c ≡ replicate h point ++ q → suc i < h → childAt c (n + i) ≡ []
   childAt-points h i q e k =
       let s = points-pair h i q k in

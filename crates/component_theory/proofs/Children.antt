@@ -7,7 +7,7 @@ use Rattle.lists.specs.Order.{atMost, same}
 use Rattle.lists.specs.Select.{keep}
 use Rattle.lists.proofs.Tests.{_∈_, by-test, and-true, true-and}
 use Rattle.lists.proofs.Comparison.{same-true, same-of-path}
-use Rattle.lists.proofs.Members.{NoDup, lawful-decides, in-head, in-tail, in-list, in-moved, in-append-left, in-append-right, in-map, in-keep, of-keep, of-once, in-once, nodup-once}
+use Rattle.lists.proofs.Members.{Decides, NoDup, lawful-decides, in-head, in-tail, in-list, in-moved, in-append-left, in-append-right, in-map, in-keep, of-keep, of-once, in-once, nodup-once}
 use Rattle.patterns.specs.Tree.{Tree, point, merge, compareTree}
 use Rattle.patterns.specs.Component.{Component, compareComponent, validComponent}
 use Rattle.patterns.specs.Generation.{hasParent, parent, leftMerges, rightMerges, candidates, isChild, children}
@@ -40,6 +40,10 @@ in-merges m [] t u r = in-head
 in-merges m (x ∷ []) t u r = in-tail (in-map (x ∷_) (in-merges m [] t u r))
 in-merges m (x ∷ y ∷ a) t u r = in-tail (in-map (x ∷_) (in-merges m (y ∷ a) t u r))
 
+-- components are told apart by their comparison
+pub component-decides : Decides compareComponent
+component-decides = lawful-decides compareComponent-lawful
+
 -- d is a child of c: it is valid, and c is its parent
 pub child-parts : (c d : Component) → isChild c d ≡ true → (validComponent d ≡ true) × (hasParent d ≡ true) × (parent d ≡ c)
 unfolding isChild
@@ -64,11 +68,11 @@ in-candidates d h =
     (λ e. rw e (in-append-left (rightMerges (P ++ (t ∷ u ∷ r))) (in-list (sym (left-by (P ++ (t ∷ u ∷ r)))) (in-merges merge P t u r))))
     (λ e. rw e (in-append-right (leftMerges (P ++ (u ∷ t ∷ r))) (in-list (sym (right-by (P ++ (u ∷ t ∷ r)))) (in-merges merge-right P u t r))))))
 
--- Lemma 12 (K1): a valid component that has a parent is a child of its parent
+-- Lemma 12: a valid component that has a parent is a child of its parent
 pub child-candidate : (d : Component) → validComponent d ≡ true → hasParent d ≡ true → d ∈ children (parent d)
 unfolding children
 child-candidate d v h =
-    in-once (lawful-decides compareComponent-lawful)
+    in-once component-decides
     (in-keep (isChild (parent d)) (in-candidates d h) (parts-child (parent d) d v h refl))
 
 -- a child is a candidate that passes
@@ -83,4 +87,4 @@ children-parent c d m = child-parts c d ((children-candidate c d m) .1)
 -- no child stands twice
 pub children-once : (c : Component) → NoDup (children c)
 unfolding children
-children-once c = nodup-once (lawful-decides compareComponent-lawful) (keep (isChild c) (candidates c))
+children-once c = nodup-once component-decides (keep (isChild c) (candidates c))

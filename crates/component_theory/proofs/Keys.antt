@@ -1,4 +1,4 @@
--- Which candidates of a component are its children (K2, K3), and the key of a component: the place where it first stands among the candidates
+-- Which candidates of a component are its children, and the key of a component: the place where it first stands among the candidates
 -- of its parent.
 use mathlib.Core.Path.{_≡_, refl, ap, sym, _∙_}
 use mathlib.Core.Bool.{Bool, true, false, _&&_, true≢false}
@@ -10,7 +10,7 @@ use Rattle.lists.specs.Order.{atMost}
 use Rattle.lists.specs.Select.{each, place}
 use Rattle.lists.proofs.Tests.{_∈_, by-test, no-both, either, and-true, is-false, each-append, each-head, each-tail}
 use Rattle.lists.proofs.Comparison.{eq-atMost, lt-atMost, atMost-turned, lt-atMost-trans, atMost-anti, same-of-path}
-use Rattle.lists.proofs.Members.{lawful-decides, in-cons-cases, not-in-nil, in-append-cases, in-moved, of-map}
+use Rattle.lists.proofs.Members.{in-cons-cases, not-in-nil, in-append-cases, in-moved, of-map}
 use Rattle.lists.proofs.Places.{place-split}
 use Rattle.patterns.specs.Tree.{Tree, point, merge, size, compareTree, validTree, lastAtMost}
 use Rattle.patterns.specs.Component.{Component, compareComponent, nonempty, rotations, validComponent}
@@ -19,7 +19,7 @@ use Rattle.patterns.proofs.Trees.{compareTree-lawful, compareComponent-lawful, 
 use Rattle.patterns.proofs.Rotations.{valid-parts}
 use Rattle.component_theory.specs.Path.{key}
 use Rattle.component_theory.proofs.Lemma8.{ordered, lead-hasParent, parent-lead, nonempty-append}
-use Rattle.component_theory.proofs.Children.{mergesBy, merge-right, left-by, right-by, child-parts}
+use Rattle.component_theory.proofs.Children.{component-decides, mergesBy, merge-right, left-by, right-by, child-parts}
 
 -- a tree is none of the two it is merged of, and not a point
 pub merge-not-left {ℓ} : {P : Type ℓ} (t u : Tree) → merge t u ≡ t → P
@@ -65,7 +65,7 @@ parent-before (merge v z ∷ a) x y r s e =
     (λ h. merge-not-left v z (sym (head-eq-of-cons-eq (rw h at e))))
     (λ h. merge-not-right v z (sym (head-eq-of-cons-eq (rw h at e))))
 
--- K2: a left merge is a child only if all trees before it are points and the two are in order
+-- a left merge is a child only if all trees before it are points and the two are in order
 pub left-place : (a : Component) (t u : Tree) (r : Component) → isChild (a ++ (t ∷ u ∷ r)) (a ++ (merge t u ∷ r)) ≡ true
     → (a ≡ replicate (length a) point) × (atMost compareTree t u ≡ true)
 left-place a t u r e =
@@ -73,7 +73,7 @@ left-place a t u r e =
     let q = parent-before a t u r (t ∷ u ∷ r) p in
     (q .0, kept-ordered t u r (q .1))
 
--- K2: a right merge too
+-- a right merge too
 pub right-place : (a : Component) (t u : Tree) (r : Component) → isChild (a ++ (t ∷ u ∷ r)) (a ++ (merge u t ∷ r)) ≡ true
     → (a ≡ replicate (length a) point) × (atMost compareTree t u ≡ true)
 right-place a t u r e =
@@ -122,7 +122,7 @@ module _ (c : Component) (i : ℕ) (t u : Tree) (r : Component) (e : c ≡ repli
       each-append validTree (replicate i point) (merge x y ∷ r)
       ∙ rw (parts-valid .0, f, g, parts-valid .3) (by-test (lastAtMost x y) (λ b. rw b) (λ b. rw b))
 
-  -- K3: a left merge after i points is a valid tree where it may be a child at all: it is one if the two are in order and no rotation is less
+  -- a left merge after i points is a valid tree where it may be a child at all: it is one if the two are in order and no rotation is less
   pub left-child : isChild c (replicate i point ++ (merge t u ∷ r)) ≡ (atMost compareTree t u && isLeast (replicate i point ++ (merge t u ∷ r)))
   left-child =
       let d = replicate i point ++ (merge t u ∷ r) in
@@ -132,7 +132,7 @@ module _ (c : Component) (i : ℕ) (t u : Tree) (r : Component) (e : c ≡ repli
       rw h (child-if-valid c d (lead-hasParent i t u r) p ∙ valid-if-least d (nonempty-append (replicate i point) (merge t u) r) ∙ ap (λ b. b && isLeast d) (trees-valid t u (parts-valid .1) (parts-valid .2) ∙ last-atMost t u h)))
       (λ h. rw (h, e) (is-false (isChild (replicate i point ++ (t ∷ u ∷ r)) d) (λ q. no-both ((left-place (replicate i point) t u r q) .1) h)))
 
-  -- K3: a right merge after i points is a child if the two are in order, the last branch of the second is at most the first, and no rotation is less
+  -- a right merge after i points is a child if the two are in order, the last branch of the second is at most the first, and no rotation is less
   pub right-child : isChild c (replicate i point ++ (merge u t ∷ r))
       ≡ (atMost compareTree t u && lastAtMost u t && isLeast (replicate i point ++ (merge u t ∷ r)))
   right-child =
@@ -216,14 +216,14 @@ pub placed-left : (d : Component) (l k : List Component) (i : ℕ) → Placed d 
 placed-left d l k i p =
     ap (λ z. place compareComponent d (z ++ k)) (p .cut)
     ∙ ap (place compareComponent d) (append-assoc (p .before) (d ∷ p .after) k)
-    ∙ place-split (lawful-decides compareComponent-lawful) (p .before) d (p .after ++ k) (p .fresh)
+    ∙ place-split component-decides (p .before) d (p .after ++ k) (p .fresh)
     ∙ p .count
 
 pub placed-right : (d : Component) (l k : List Component) (i : ℕ) → (d ∈ l → ⊥) → Placed d k i → place compareComponent d (l ++ k) ≡ length l + i
 placed-right d l k i n p =
     ap (λ z. place compareComponent d (l ++ z)) (p .cut)
     ∙ ap (place compareComponent d) (sym (append-assoc l (p .before) (d ∷ p .after)))
-    ∙ place-split (lawful-decides compareComponent-lawful) (l ++ p .before) d (p .after)
+    ∙ place-split component-decides (l ++ p .before) d (p .after)
     (λ q. either (in-append-cases l q) n (p .fresh))
     ∙ length-append l (p .before) ∙ ap (λ z. length l + z) (p .count)
 

@@ -10,20 +10,15 @@ use lib.ListN.{length, length-replicate}
 use borrow.Author.Tests.{eq-eqb, ne-eqb, eqb-true, eqb-false}
 use Rattle.lists.specs.Select.{next}
 use Rattle.lists.proofs.Tests.{by-test}
-use Rattle.lists.proofs.Members.{Decides, lawful-decides}
 use Rattle.lists.proofs.Follow.{Within, next-within, within-next, within-last, within-some-in}
 use Rattle.patterns.specs.Tree.{point}
 use Rattle.patterns.specs.Component.{Component, points, compareComponent, validComponent}
 use Rattle.patterns.specs.Generation.{hasParent, parent, walk, cycle}
-use Rattle.patterns.proofs.Trees.{compareComponent-lawful}
 use Rattle.component_theory.specs.LocalStep.{evenDepth, early, afterEarly, afterLate, stepIn}
 use Rattle.component_theory.proofs.Lemma8.{parent-valid, parent-points, parent-length}
-use Rattle.component_theory.proofs.Children.{child-candidate}
+use Rattle.component_theory.proofs.Children.{component-decides, child-candidate}
 use Rattle.component_theory.proofs.Generation.{Arranged, arranged-ranked, arranged-sound, arranged-once, cycle-points, cycle-no-parent, cycle-parent, length-points, valid-positive, by-parents}
 use Rattle.component_theory.proofs.Pieces.{Block, whole-block, block-below-even, block-below-odd, block-first, block-last}
-
-component-decides : Decides compareComponent
-component-decides = lawful-decides compareComponent-lawful
 
 -- The depth.
 

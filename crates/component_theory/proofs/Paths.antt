@@ -7,25 +7,20 @@ use Prim.Native.Nat.{ℕ, zero, suc, _-_, Ordering·eq, compare}
 use native.Mathlib.Omega.{arith}
 use lib.ListN.{length, length-replicate, length-append}
 use Rattle.lists.specs.Order.{then, lexBy}
-use Rattle.lists.proofs.Comparison.{Lawful, by-order, compare-lawful, keys-lawful, then-is-eq, eq-of-compare, compare-self}
+use Rattle.lists.proofs.Comparison.{Lawful, by-order, compare-lawful, then-is-eq, eq-of-compare, compare-self}
 use Rattle.lists.proofs.Lex.{lexBy-lawful}
-use Rattle.lists.proofs.Members.{Decides, lawful-decides}
 use Rattle.lists.proofs.Places.{place-injective}
 use Rattle.lists.proofs.Rising.{Rising}
 use Rattle.patterns.specs.Tree.{point}
-use Rattle.patterns.specs.Component.{Component, points, compareComponent, validComponent}
+use Rattle.patterns.specs.Component.{Component, points, validComponent}
 use Rattle.patterns.specs.Generation.{hasParent, parent, candidates, isChild, children, cycle, generation}
 use Rattle.patterns.specs.System.{generationPlace, compareGenerated}
-use Rattle.patterns.proofs.Trees.{compareComponent-lawful}
 use Rattle.component_theory.proofs.Lemma8.{parent-points, parent-length}
-use Rattle.component_theory.proofs.Children.{children-parent}
+use Rattle.component_theory.proofs.Children.{component-decides, children-parent}
 use Rattle.component_theory.proofs.Generation.{cycle-points, length-points, generation-is-walk, generation-sound, generation-complete}
 use Rattle.lists.proofs.RisingPlaces.{once-keep-rises, rising-change, rising-places}
 use Rattle.component_theory.specs.Path.{key, path-of, path}
 use Rattle.component_theory.proofs.Alternating.{Keyed, compareAlternating, walk-rises}
-
-component-decides : Decides compareComponent
-component-decides = lawful-decides compareComponent-lawful
 
 -- a component's path is its parent's with the component's key after it
 pub parent-path : (c : Component) → hasParent c ≡ true → path c ≡ path (parent c) ++ (key c ∷ [])
@@ -109,14 +104,7 @@ generated-rises n =
     let q = generation-sound n y j in
     generated-paths x y (p .0) (q .0) ∙ rw (p .1, q .1, compare-self n) e)
 
--- a pair of numbers, compared by the first and then by the second
-places-lawful : Lawful {A = ℕ × ℕ} (λ p q. then (compare (p .0) (q .0)) (compare (p .1) (q .1)))
-places-lawful = keys-lawful (λ p. p .0) (λ p. p .1) compare-lawful compare-lawful (λ p q e f. ap₂ (λ a b. (a, b)) e f)
-
-place-of : Component → ℕ × ℕ
-place-of c = (points c, generationPlace c)
-
--- a component compares equal to itself, the sides may be turned, and less is transitive
+-- a component compares equal to itself
 pub generated-self : (c : Component) → compareGenerated c c ≡ Ordering·eq
-unfolding compareGenerated place-of
-generated-self c = places-lawful .self (place-of c)
+unfolding compareGenerated
+generated-self c = ap₂ then (compare-self (points c)) (compare-self (generationPlace c))
