@@ -1,24 +1,25 @@
--- Every reply fits a signed number of 64 bits: a length is at most that of a lent slice, which has fewer than 2 ^ 63 places; n is at most 200; and there
--- are nine causes.
+-- Every reply fits a signed number of 64 bits: a length is at most that of a lent slice, which has fewer than 2 ^ 63 places; n is at most 200; and the
+-- number of a cause is below 100.
 use mathlib.Core.Path.{_≡_, refl, sym, _∙_, ap, subst}
 use mathlib.Core.List.{List}
-use Prim.Native.Nat.{ℕ, _*_, _≤_, _<_, _^_}
+use Prim.Native.Nat.{ℕ, zero, suc, _-_, _*_, _≤_, _<_, _^_}
 use native.Mathlib.Omega.{arith}
 use lib.Dec.{leb}
-use lib.IntN.{ℤ}
+use lib.IntN.{ℤ, pos, negℤ, _-ℤ_}
 use lib.ListN.{length}
 use mir.Syntax.{w64}
 use mir.Val.{SFits, toZ, ofZ}
-use mir.ValLaws.{toZ-ofZ}
-use borrow.Author.Tests.{leb-true}
+use mir.ValLaws.{toZ-pos, toZ-ofZ}
+use borrow.Author.Tests.{le-leb, leb-true}
 use Rattle.lists.proofs.Tests.{by-test}
 use Rattle.patterns.specs.declared.Refusal.{Refusal}
-use Rattle.patterns.specs.declared.Refusal.the-variants.{Count, Image, Truncated, NumberForm, Sizes, NotCanonical, Trailing, Room, Position}
+use Rattle.patterns.specs.declared.Refusal.the-variants.{Room}
 use Rattle.patterns.specs.System.{System, weight}
 use Rattle.patterns.specs.Reading.{Result, done, fault, accepted}
 use Rattle.patterns.specs.Replies.{Answer, length-is, refused, numberOf}
 use Rattle.patterns.specs.Entry.{Outcome, gives, ends, lacks, fails, answer, answered, Replied, acceptOf, IsomorphismReplied}
 use Rattle.engine.proofs.Accepting.{accepted-canonical}
+use Rattle.patterns.proofs.Causes.{cause-number}
 use Rattle.patterns.specs.SignedReplies.{signedOf, Reported, IsomorphismReported}
 
 abbrev pub Fits : Answer → Type 0
@@ -28,16 +29,22 @@ Fits a = SFits w64 (signedOf a)
 pub read-back : {z y : ℤ} → z ≡ y → SFits w64 y → toZ w64 (ofZ w64 z) ≡ y
 read-back {z} {y} e h = ap (λ x. toZ w64 (ofZ w64 x)) e ∙ toZ-ofZ w64 y h
 
+cause-fits : (c : ℕ) → c < 100 → SFits w64 (negℤ (pos c))
+cause-fits zero h = record { sfits = omega arith }
+cause-fits (suc c) h = record { sfits = omega arith }
+
 pub refused-fits : (c : Refusal) → Fits (refused (numberOf c))
-refused-fits Count = record { sfits = omega arith }
-refused-fits Image = record { sfits = omega arith }
-refused-fits Truncated = record { sfits = omega arith }
-refused-fits NumberForm = record { sfits = omega arith }
-refused-fits Sizes = record { sfits = omega arith }
-refused-fits NotCanonical = record { sfits = omega arith }
-refused-fits Trailing = record { sfits = omega arith }
-refused-fits Room = record { sfits = omega arith }
-refused-fits Position = record { sfits = omega arith }
+refused-fits c = cause-fits (numberOf c) (cause-number c .1)
+
+-- minus the number of a cause, as it is computed
+zero-less : (c : ℕ) → pos 0 -ℤ pos c ≡ negℤ (pos c)
+zero-less zero = refl
+zero-less (suc c) =
+    let e : suc c - 1 ≡ c = omega arith in
+    rw (le-leb 1 (suc c) (omega arith), e)
+
+pub negated : (c : Refusal) (n : ℕ) → n ≡ numberOf c → pos 0 -ℤ toZ w64 n ≡ signedOf (refused (numberOf c))
+negated c n e = let b = cause-number c in ap (λ z. pos 0 -ℤ z) (toZ-pos w64 n (omega arith) ∙ ap pos e) ∙ zero-less (numberOf c)
 
 pub small-fits : (n : ℕ) → n ≤ 200 → Fits (length-is n)
 small-fits n h = record { sfits = omega arith }

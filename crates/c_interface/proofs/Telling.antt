@@ -1,13 +1,15 @@
 -- A caller can tell every reply from its number: "last" and "none" are no refusal's number.
 use mathlib.Core.Path.{_≡_, refl}
 use mathlib.Core.Bool.{cond}
-use Prim.Native.Nat.{ℕ, suc}
+use Prim.Native.Nat.{ℕ, zero, suc, _<_}
+use native.Mathlib.Omega.{arith}
 use lib.Dec.{eqb}
-use lib.IntN.{ℤ, pos, negsuc}
+use borrow.Author.Tests.{ne-eqb}
+use lib.IntN.{ℤ, pos, negsuc, negℤ}
 use Rattle.patterns.specs.declared.Refusal.{Refusal}
-use Rattle.patterns.specs.declared.Refusal.the-variants.{Count, Image, Truncated, NumberForm, Sizes, NotCanonical, Trailing, Room, Position}
 use Rattle.patterns.specs.Replies.{Answer, length-is, last, lacking, refused, numberOf}
 use Rattle.patterns.specs.SignedReplies.{signedOf}
+use Rattle.patterns.proofs.Causes.{cause-number}
 
 -- the reply that a caller takes a number for
 abbrev pub replyOf : ℤ → Answer
@@ -23,13 +25,9 @@ last-told = refl
 pub none-told : replyOf (signedOf lacking) ≡ lacking
 none-told = refl
 
+cause-told : (c : ℕ) → 0 < c → c < 100 → replyOf (negℤ (pos c)) ≡ refused c
+cause-told zero h k = absurd (omega arith)
+cause-told (suc c) h k = rw (ne-eqb c 99 (λ e. omega arith), ne-eqb c 100 (λ e. omega arith))
+
 pub refusal-told : (c : Refusal) → replyOf (signedOf (refused (numberOf c))) ≡ refused (numberOf c)
-refusal-told Count = refl
-refusal-told Image = refl
-refusal-told Truncated = refl
-refusal-told NumberForm = refl
-refusal-told Sizes = refl
-refusal-told NotCanonical = refl
-refusal-told Trailing = refl
-refusal-told Room = refl
-refusal-told Position = refl
+refusal-told c = let b = cause-number c in cause-told (numberOf c) (b .0) (b .1)

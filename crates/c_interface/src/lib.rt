@@ -19,21 +19,11 @@ ghost use Rattle.patterns.specs.Replies.{censusAnswer};
 ghost use Rattle.patterns.specs.SignedReplies.{signedOf, heightIn, longestIn, Reported, IsomorphismReported, CensusReported, heightOf, longestOf};
 ghost use Rattle.patterns.specs.SignedReplies.{componentStart, componentEnd};
 
-// The number of a refusal.
+// The number of a refusal: minus the number of its cause.
 fn refusal(cause: Refusal) -> i64
     ensures { λ r. ⌜ r ≡ signedOf (refused (numberOf cause)) ⌝ }
 {
-    match cause {
-        Refusal::Count => -1,
-        Refusal::Image => -2,
-        Refusal::Truncated => -3,
-        Refusal::NumberForm => -4,
-        Refusal::Sizes => -5,
-        Refusal::NotCanonical => -6,
-        Refusal::Trailing => -7,
-        Refusal::Room => -8,
-        Refusal::Position => -9,
-    }
+    -(patterns::number(cause) as i64)
 }
 
 // The number of what was counted.
@@ -45,7 +35,7 @@ fn counted(n: usize) -> i64
 }
 
 // The number of a length or a refusal.
-fn number(reply: Reply) -> i64
+fn number_of(reply: Reply) -> i64
     requires { ⌜ SFits w64 (signedOf (answerOf reply)) ⌝ }
     ensures { λ r. ⌜ r ≡ signedOf (answerOf reply) ⌝ }
 {
@@ -75,7 +65,7 @@ fn measure(table: &[u8]) -> Census
 pub extern "C" fn lethmuok_accept(code: &[u8]) -> i64
     ensures { λ r. ⌜ r ≡ signedOf (acceptOf (now (code .entry))) ⌝ }
 {
-    number(engine::accept(code))
+    number_of(engine::accept(code))
 }
 
 // Writes the first code of n points.
@@ -83,7 +73,7 @@ pub extern "C" fn lethmuok_accept(code: &[u8]) -> i64
 pub extern "C" fn lethmuok_first(n: usize, out: &mut [u8]) -> i64
     ensures { λ r. ⌜ Reported (firstOf n) (now (out .entry)) r (now (out .exit)) ⌝ }
 {
-    number(engine::first(n, out))
+    number_of(engine::first(n, out))
 }
 
 // Writes the code that follows `code` in the list.
@@ -103,7 +93,7 @@ pub extern "C" fn lethmuok_successor(code: &[u8], out: &mut [u8]) -> i64
 pub extern "C" fn lethmuok_code_of_map(table: &[u8], out: &mut [u8]) -> i64
     ensures { λ r. ⌜ Reported (codeOfMap (now (table .entry))) (now (out .entry)) r (now (out .exit)) ⌝ }
 {
-    number(engine::code_of_map(table, out))
+    number_of(engine::code_of_map(table, out))
 }
 
 // Writes the map of a code.
@@ -111,7 +101,7 @@ pub extern "C" fn lethmuok_code_of_map(table: &[u8], out: &mut [u8]) -> i64
 pub extern "C" fn lethmuok_map_of_code(code: &[u8], out: &mut [u8]) -> i64
     ensures { λ r. ⌜ Reported (mapOfCode (now (code .entry))) (now (out .entry)) r (now (out .exit)) ⌝ }
 {
-    number(engine::map_of_code(code, out))
+    number_of(engine::map_of_code(code, out))
 }
 
 // Writes an isomorphism from the map `f` to the map `g`.

@@ -1,88 +1,23 @@
-use mathlib.Core.Path.{sym, ap}
-use lib.IntN.{ℤ}
-use Rattle.patterns.specs.declared.Refusal.{Refusal}
-use Rattle.patterns.specs.Replies.{refused, numberOf}
-use Rattle.patterns.specs.SignedReplies.{signedOf}
+use mathlib.Core.Path.{sym, _∙_, subst}
+use mir.Syntax.{w64}
+use mir.Val.{SFits}
+use mir.ValLaws.{toZ-ofZ}
+use Rattle.c_interface.proofs.Fitting.{refused-fits, negated}
 use borrow.Author.Needs.{needs}
 use Rattle.c_interface.proofs.refusal.Statement.{statement}
 use Rattle.c_interface.proofs.refusal.Tie as tie
 
-abbrev signed : Refusal → ℤ
-signed c = signedOf (refused (numberOf c))
+number-requires : tie.Need-number-requires
+number-requires c κs = search needs
 
-enum-told : tie.Need-enum-told
-enum-told c = search needs
+cast-result : tie.Need-cast-result
+cast-result c = search needs
 
-enum-told-2 : tie.Need-enum-told-2
-enum-told-2 c = search needs
-
-enum-told-3 : tie.Need-enum-told-3
-enum-told-3 c = search needs
-
-enum-told-4 : tie.Need-enum-told-4
-enum-told-4 c = search needs
-
-enum-told-5 : tie.Need-enum-told-5
-enum-told-5 c = search needs
-
-enum-told-6 : tie.Need-enum-told-6
-enum-told-6 c = search needs
-
-enum-told-7 : tie.Need-enum-told-7
-enum-told-7 c = search needs
-
-enum-told-8 : tie.Need-enum-told-8
-enum-told-8 c = search needs
-
-enum-told-9 : tie.Need-enum-told-9
-enum-told-9 c = search needs
+sub-result : tie.Need-sub-result
+sub-result c = subst (SFits w64) (sym (negated (c .before .args .cause) _ (c .number .ensures))) (refused-fits (c .before .args .cause))
 
 returns : tie.Need-returns
-returns c = ap signed (sym (c .enum-told .given .1))
-
-returns-2 : tie.Need-returns-2
-returns-2 c = ap signed (sym (c .enum-told2 .given .1))
-
-returns-3 : tie.Need-returns-3
-returns-3 c = ap signed (sym (c .enum-told3 .given .1))
-
-returns-4 : tie.Need-returns-4
-returns-4 c = ap signed (sym (c .enum-told4 .given .1))
-
-returns-5 : tie.Need-returns-5
-returns-5 c = ap signed (sym (c .enum-told5 .given .1))
-
-returns-6 : tie.Need-returns-6
-returns-6 c = ap signed (sym (c .enum-told6 .given .1))
-
-returns-7 : tie.Need-returns-7
-returns-7 c = ap signed (sym (c .enum-told7 .given .1))
-
-returns-8 : tie.Need-returns-8
-returns-8 c = ap signed (sym (c .enum-told8 .given .1))
-
-returns-9 : tie.Need-returns-9
-returns-9 c = ap signed (sym (c .enum-told9 .given .1))
+returns c = toZ-ofZ w64 _ (sub-result c) ∙ negated (c .before .args .cause) _ (c .number .ensures)
 
 pub refusal-spec : {M : Type 1} → statement M
-refusal-spec =
-    tie.close
-    (tie.spec
-    enum-told
-    enum-told-2
-    enum-told-3
-    enum-told-4
-    enum-told-5
-    enum-told-6
-    enum-told-7
-    enum-told-8
-    enum-told-9
-    returns
-    returns-2
-    returns-3
-    returns-4
-    returns-5
-    returns-6
-    returns-7
-    returns-8
-    returns-9)
+refusal-spec = tie.close (tie.spec number-requires cast-result sub-result returns)

@@ -7,8 +7,8 @@ use Rattle.patterns.specs.Replies.{answerOf}
 use Rattle.patterns.specs.SignedReplies.{signedOf}
 use Rattle.c_interface.proofs.Fitting.{read-back}
 use borrow.Author.Needs.{needs}
-use Rattle.c_interface.proofs.number.Statement.{statement}
-use Rattle.c_interface.proofs.number.Tie as tie
+use Rattle.c_interface.proofs.number_of.Statement.{statement}
+use Rattle.c_interface.proofs.number_of.Tie as tie
 
 abbrev signed : Reply → ℤ
 signed r = signedOf (answerOf r)
@@ -31,8 +31,8 @@ returns c = read-back (c .counted .ensures ∙ sym (ap signed (c .before .before
 returns-2 : tie.Need-returns-2
 returns-2 c = read-back (c .refusal .ensures ∙ sym (ap signed (c .before .before .reply2 .given .1))) (c .before .before .before .before .pre)
 
-pub number-spec : {M : Type 1} → statement M
-number-spec =
+pub number-of-spec : {M : Type 1} → statement M
+number-of-spec =
     tie.close
     (tie.spec
     enum-known-reply
