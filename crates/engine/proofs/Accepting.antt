@@ -15,7 +15,7 @@ use Rattle.reading.specs.declared.Accepted.the-variants.{System as Held, Refuse
 use Rattle.memory.specs.Memory.{Holds}
 use Rattle.memory.specs.Memory.{HeldSystem}
 use Rattle.reading.specs.Shape.{acceptance, AcceptedInto}
-use Rattle.reading.proofs.Results.{Good, good-then, good-weaken, good-done}
+use Rattle.tree_reading.proofs.Results.{Good, good-then, good-weaken, good-done}
 use Rattle.systems.proofs.Readback.{system-good, canonical-nonempty}
 use Rattle.systems.proofs.Parts.{held-count, held-points}
 

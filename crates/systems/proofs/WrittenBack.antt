@@ -14,7 +14,7 @@ use Rattle.patterns.specs.Component.{Component, points, flat}
 use Rattle.patterns.specs.System.{System, weight, canonical}
 use Rattle.patterns.specs.Written.{componentNumbers, numbers, writeNumber, bytes, written, startOf}
 use Rattle.patterns.specs.Reading.{done, cut, readSystem, accepted}
-use Rattle.reading.proofs.Results.{Good, good-weaken, good-then, good-done}
+use Rattle.tree_reading.proofs.Results.{Good, good-weaken, good-then, good-done}
 use Rattle.systems.proofs.Bounds.{allBelow, below-cons, below-append, length-gather}
 use Rattle.lists.proofs.Members.{gather-append}
 use Rattle.systems.proofs.Numbers.{cut-bytes, cut-good, bytes-append, bytes-below, bytes-length, write-length}

@@ -10,10 +10,10 @@ use Rattle.reading.proofs.canonical.Statement.{statement}
 use Rattle.reading.proofs.canonical.Tie as tie
 
 abbrev Inv-loop : tie.InvT-loop
-Inv-loop sizes numbers last₀ at₀ i₀ last at i = Checking sizes numbers last at i
+Inv-loop sizes trees last₀ at₀ i₀ last at i = Checking sizes trees last at i
 
 abbrev μ-loop : tie.MeasureT-loop
-μ-loop sizes numbers last₀ at₀ i₀ last at i = length sizes - i
+μ-loop sizes trees last₀ at₀ i₀ last at i = length sizes - i
 
 loop-holds : tie.Need-loop-holds Inv-loop μ-loop
 loop-holds c = checking-start (c .before .before .pre)
@@ -80,7 +80,7 @@ in-place-requires c κs =
     let n : Next (l .inv) (g .0) (g .1) = g .2 in
     let a = c .before .before .before .before .before .before .before .args in
     let e : l .at + getD (now (a .sizes)) (l .i) 0 - l .at ≡ getD (now (a .sizes)) (l .i) 0 = omega arith in
-    checking-neighbours (l .inv) n (omega arith) refl (ap (λ k. take k (drop (l .at) (now (a .numbers)))) e)
+    checking-neighbours (l .inv) n (omega arith) refl (ap (λ k. take k (drop (l .at) (now (a .trees)))) e)
 
 returns : tie.Need-returns Inv-loop μ-loop
 returns c =
@@ -90,7 +90,7 @@ returns c =
     let n : Next (l .inv) (g .0) (g .1) = g .2 in
     let call = c .before .in-place in
     let e : l .at + getD (now (a .sizes)) (l .i) 0 - l .at ≡ getD (now (a .sizes)) (l .i) 0 = omega arith in
-    let d = call .ensures (l .inv .p) (g .0) (n .left-is) (ap (λ k. take k (drop (l .at) (now (a .numbers)))) e ∙ n .right-is) in
+    let d = call .ensures (l .inv .p) (g .0) (n .left-is) (ap (λ k. take k (drop (l .at) (now (a .trees)))) e ∙ n .right-is) in
     checking-fails (l .inv) n (omega arith) (sym d ∙ not-of-true (call .result) (c .if1 .taken))
 
 add-i : tie.Need-add-i Inv-loop μ-loop
@@ -107,7 +107,7 @@ loop-again c =
     let n : Next (l .inv) (g .0) (g .1) = g .2 in
     let call = c .before .in-place in
     let e : l .at + getD (now (a .sizes)) (l .i) 0 - l .at ≡ getD (now (a .sizes)) (l .i) 0 = omega arith in
-    let d = call .ensures (l .inv .p) (g .0) (n .left-is) (ap (λ k. take k (drop (l .at) (now (a .numbers)))) e ∙ n .right-is) in
+    let d = call .ensures (l .inv .p) (g .0) (n .left-is) (ap (λ k. take k (drop (l .at) (now (a .trees)))) e ∙ n .right-is) in
     checking-next (l .inv) n (omega arith) (sym d ∙ not-of-false (call .result) (c .if1 .left))
 
 returns-2 : tie.Need-returns-2 Inv-loop μ-loop

@@ -7,18 +7,19 @@ use native.Mathlib.Omega.{arith}
 use lib.ListN.{length, drop, getD, drop-of-length-le}
 use lib.Seq.{drop-drop}
 use borrow.Author.Tests.{lt-ltb, le-ltb, ne-eqb}
+use Rattle.lists.proofs.Tests.{clash}
 use Rattle.patterns.specs.declared.Refusal.{Refusal}
 use Rattle.patterns.specs.declared.Refusal.the-variants.{Truncated, Sizes}
 use Rattle.patterns.specs.Tree.{Tree, size}
 use Rattle.patterns.specs.Component.{points}
 use Rattle.patterns.specs.Reading.{Result, done, fault, mapped, readTree, readTrees}
 use Rattle.patterns.proofs.Trees.{points-append}
-use Rattle.reading.specs.declared.Read.{Read}
-use Rattle.reading.specs.declared.Read.the-variants.{Past, Refused}
-use Rattle.reading.specs.Walking.{walked, walkedAll, readComponent}
-use Rattle.reading.proofs.Results.{mapped-none, mapped-more}
-use Rattle.reading.proofs.Readback.{tree-read}
-use Rattle.reading.proofs.Walking.{drop-one}
+use Rattle.tree_reading.specs.declared.Read.{Read}
+use Rattle.tree_reading.specs.declared.Read.the-variants.{Past, Refused}
+use Rattle.tree_reading.specs.Walking.{walked, walkedAll, readComponent}
+use Rattle.tree_reading.proofs.Results.{mapped-none, mapped-more}
+use Rattle.tree_reading.proofs.Readback.{tree-read}
+use Rattle.tree_reading.proofs.Walking.{drop-one}
 
 -- i of k trees have been read, from place `at` to place `next`, and `rest` points are left.
 pub record Along (s : List ℕ) (at k left next rest i : ℕ) : Type 0 where
@@ -41,10 +42,10 @@ along-start s at k left =
 -- what a reply says of the result
 pub tree-of : (at next : ℕ) (o : Result Tree) → walked at o ≡ Past next → (t : Tree) × (o ≡ done t) × (next ≡ at + size t)
 tree-of at next (done t) e = (t, refl, cc)
-tree-of at next (fault c) e = absurd (let z : _≡_ {A = ℕ} 0 1 = cc in omega arith)
+tree-of at next (fault c) e = clash cc
 
 pub tree-fault : (at : ℕ) (c : Refusal) (o : Result Tree) → walked at o ≡ Refused c → o ≡ fault c
-tree-fault at c (done t) e = absurd (let z : _≡_ {A = ℕ} 0 1 = cc in omega arith)
+tree-fault at c (done t) e = clash cc
 tree-fault at c (fault d) e = ap fault cc
 
 module _ {s : List ℕ} {at k left next rest i : ℕ} (w : Along s at k left next rest i) where

@@ -42,7 +42,7 @@ same-system (c ∷ S) (d ∷ R) e f =
     let g = gather-flat-first c d (gather flat S) (gather flat R) (head-eq-of-cons-eq e) f in
     ap₂ _∷_ (g .0) (same-system S R (tail-eq-of-cons-eq e) (g .1))
 
-pub holds-unique : {S R : System} {sizes numbers : List ℕ} → Holds S sizes numbers → Holds R sizes numbers → S ≡ R
+pub holds-unique : {S R : System} {sizes trees : List ℕ} → Holds S sizes trees → Holds R sizes trees → S ≡ R
 holds-unique {S} {R} h k = same-system S R (sym (h .points-are) ∙ k .points-are) (sym (h .flat-is) ∙ k .flat-is)
 
 pub length-gather-flat : (S : System) → length (gather flat S) ≡ weight S
@@ -98,7 +98,7 @@ pub place-compared : (p c : Component) (o : Order) → validComponent c ≡ true
 place-compared p c o v e = rw (v, e)
 
 -- The components before place i have been found in order; the one before it is p, from `last` to `at`, and `rest` are left.
-pub record Checking (sizes numbers : List ℕ) (last at i : ℕ) : Type 0 where
+pub record Checking (sizes trees : List ℕ) (last at i : ℕ) : Type 0 where
   pub p : Component
   pub rest : System
   pub earlier : List ℕ
@@ -106,14 +106,14 @@ pub record Checking (sizes numbers : List ℕ) (last at i : ℕ) : Type 0 where
   pub ends : at ≡ last + points p
   pub turn : i ≤ length sizes
   pub points-are : drop i sizes ≡ map points rest
-  pub flat-is : numbers ≡ earlier ++ (flat p ++ gather flat rest)
+  pub flat-is : trees ≡ earlier ++ (flat p ++ gather flat rest)
   pub valid : (p ≡ []) ⊎ (validComponent p ≡ true)
-  pub small : length numbers ≤ 200
-  pub order : (S : System) → Holds S sizes numbers → canonical S ≡ inOrder p rest
+  pub small : length trees ≤ 200
+  pub order : (S : System) → Holds S sizes trees → canonical S ≡ inOrder p rest
 
-pub checking-start : {sizes numbers : List ℕ} → HeldSystem sizes numbers → Checking sizes numbers 0 0 0
+pub checking-start : {sizes trees : List ℕ} → HeldSystem sizes trees → Checking sizes trees 0 0 0
 unfolding canonical
-checking-start {sizes} {numbers} h =
+checking-start {sizes} {trees} h =
     record {
       p = [];
       rest = h .system;
@@ -129,28 +129,28 @@ checking-start {sizes} {numbers} h =
     }
 
 -- the component at place i
-pub record Next {sizes numbers : List ℕ} {last at i : ℕ} (w : Checking sizes numbers last at i) (c : Component) (R : System) : Type 0 where
+pub record Next {sizes trees : List ℕ} {last at i : ℕ} (w : Checking sizes trees last at i) (c : Component) (R : System) : Type 0 where
   pub rest-is : w .rest ≡ c ∷ R
   pub size-is : getD sizes i 0 ≡ points c
-  pub left-is : take (at - last) (drop last numbers) ≡ flat (w .p)
-  pub right-is : take (getD sizes i 0) (drop at numbers) ≡ flat c
-  pub within : at + getD sizes i 0 ≤ length numbers
+  pub left-is : take (at - last) (drop last trees) ≡ flat (w .p)
+  pub right-is : take (getD sizes i 0) (drop at trees) ≡ flat c
+  pub within : at + getD sizes i 0 ≤ length trees
 
-module _ {sizes numbers : List ℕ} {last at i : ℕ} (w : Checking sizes numbers last at i) where
-  left-part : take (at - last) (drop last numbers) ≡ flat (w .p)
+module _ {sizes trees : List ℕ} {last at i : ℕ} (w : Checking sizes trees last at i) where
+  left-part : take (at - last) (drop last trees) ≡ flat (w .p)
   left-part =
       let e : at - last ≡ points (w .p) = omega (arith, w .ends) in
       rw (e, w .flat-is, drop-at (w .earlier) (flat (w .p) ++ gather flat (w .rest)) last (w .begins))
       (take-at (flat (w .p)) (gather flat (w .rest)) (points (w .p)) (length-flat (w .p)))
 
-  after-left : drop at numbers ≡ gather flat (w .rest)
+  after-left : drop at trees ≡ gather flat (w .rest)
   after-left =
-      let q : numbers ≡ w .earlier ++ flat (w .p) ++ gather flat (w .rest) = w .flat-is ∙ sym (append-assoc (w .earlier) (flat (w .p)) (gather flat (w .rest))) in
+      let q : trees ≡ w .earlier ++ flat (w .p) ++ gather flat (w .rest) = w .flat-is ∙ sym (append-assoc (w .earlier) (flat (w .p)) (gather flat (w .rest))) in
       ap (drop at) q
       ∙ drop-at (w .earlier ++ flat (w .p)) (gather flat (w .rest)) at
       (omega (arith, length-append (w .earlier) (flat (w .p)), length-flat (w .p), w .begins, w .ends))
 
-  all-numbers : length numbers ≡ at + weight (w .rest)
+  all-numbers : length trees ≡ at + weight (w .rest)
   all-numbers =
       omega (
         arith,
@@ -173,7 +173,7 @@ module _ {sizes numbers : List ℕ} {last at i : ℕ} (w : Checking sizes number
       of [] e = absurd (omega (arith, ap length (first ∙ ap (map points) e)))
       of (c ∷ R) e =
           let s : getD sizes i 0 ≡ points c = head-eq-of-cons-eq (first ∙ ap (map points) e) in
-          let g : drop at numbers ≡ flat c ++ gather flat R = after-left ∙ ap (gather flat) e in (
+          let g : drop at trees ≡ flat c ++ gather flat R = after-left ∙ ap (gather flat) e in (
             c,
             R,
             record {
@@ -187,7 +187,7 @@ module _ {sizes numbers : List ℕ} {last at i : ℕ} (w : Checking sizes number
 
   module _ {c : Component} {R : System} (n : Next w c R) (h : i < length sizes) where
     -- the two parts of memory
-    pub checking-neighbours : {left right : List ℕ} → left ≡ take (at - last) (drop last numbers) → right ≡ take (getD sizes i 0) (drop at numbers)
+    pub checking-neighbours : {left right : List ℕ} → left ≡ take (at - last) (drop last trees) → right ≡ take (getD sizes i 0) (drop at trees)
         → Neighbours left right
     checking-neighbours {left} {right} e f =
         record {
@@ -199,16 +199,16 @@ module _ {sizes numbers : List ℕ} {last at i : ℕ} (w : Checking sizes number
           small = omega (arith, ap length (f ∙ n .right-is), length-flat c, n .size-is, n .within, w .small);
         }
 
-    further : (S : System) → Holds S sizes numbers → canonical S ≡ (validComponent c && atMost compareGenerated (w .p) c && inOrder c R)
+    further : (S : System) → Holds S sizes trees → canonical S ≡ (validComponent c && atMost compareGenerated (w .p) c && inOrder c R)
     unfolding inOrder
     further S k = w .order S k ∙ ap (inOrder (w .p)) (n .rest-is)
 
     -- it is in its place
-    pub checking-next : (validComponent c && atMost compareGenerated (w .p) c) ≡ true → Checking sizes numbers at (at + getD sizes i 0) (i + 1)
+    pub checking-next : (validComponent c && atMost compareGenerated (w .p) c) ≡ true → Checking sizes trees at (at + getD sizes i 0) (i + 1)
     checking-next t =
         let a = and-true (validComponent c) (atMost compareGenerated (w .p) c) t in
         let first : getD sizes i 0 ∷ drop (i + 1) sizes ≡ map points (c ∷ R) = sym (drop-one sizes i h) ∙ w .points-are ∙ ap (map points) (n .rest-is) in
-        let q : numbers ≡ w .earlier ++ flat (w .p) ++ (flat c ++ gather flat R) =
+        let q : trees ≡ w .earlier ++ flat (w .p) ++ (flat c ++ gather flat R) =
         w .flat-is ∙ sym (append-assoc (w .earlier) (flat (w .p)) (gather flat (w .rest))) ∙ ap (λ l. w .earlier ++ flat (w .p) ++ gather flat l) (n .rest-is) in
         record {
           p = c;
@@ -225,11 +225,11 @@ module _ {sizes numbers : List ℕ} {last at i : ℕ} (w : Checking sizes number
         }
 
     -- it is not
-    pub checking-fails : (validComponent c && atMost compareGenerated (w .p) c) ≡ false → (S : System) → Holds S sizes numbers → false ≡ canonical S
+    pub checking-fails : (validComponent c && atMost compareGenerated (w .p) c) ≡ false → (S : System) → Holds S sizes trees → false ≡ canonical S
     checking-fails t S k = sym (further S k ∙ ap (_&& inOrder c R) t)
 
   -- no component is left
-  pub checking-end : length sizes ≤ i → (S : System) → Holds S sizes numbers → true ≡ canonical S
+  pub checking-end : length sizes ≤ i → (S : System) → Holds S sizes trees → true ≡ canonical S
   unfolding inOrder
   checking-end h S k = sym (w .order S k ∙ of (w .rest) (w .points-are))
     where

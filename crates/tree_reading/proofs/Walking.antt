@@ -7,16 +7,17 @@ use native.Mathlib.Omega.{arith}
 use lib.ListN.{length, drop, getD, drop-of-length-le}
 use lib.Seq.{drop-cons, drop-drop}
 use borrow.Author.Tests.{lt-ltb, le-ltb, eq-eqb, ne-eqb}
+use Rattle.lists.proofs.Tests.{clash}
 use Rattle.patterns.specs.declared.Refusal.{Refusal}
 use Rattle.patterns.specs.declared.Refusal.the-variants.{Truncated, Sizes}
 use Rattle.patterns.specs.Tree.{Tree, size, graft}
 use Rattle.patterns.specs.Component.{points}
 use Rattle.patterns.specs.Reading.{Result, done, fault, andThen, mapped, readTree, readBranches}
 use Rattle.patterns.proofs.Trees.{size-positive, size-graft}
-use Rattle.reading.specs.declared.Read.{Read}
-use Rattle.reading.specs.declared.Read.the-variants.{Past, Refused}
-use Rattle.reading.specs.Walking.{walked, walkedAll}
-use Rattle.reading.proofs.Readback.{tree-read}
+use Rattle.tree_reading.specs.declared.Read.{Read}
+use Rattle.tree_reading.specs.declared.Read.the-variants.{Past, Refused}
+use Rattle.tree_reading.specs.Walking.{walked, walkedAll}
+use Rattle.tree_reading.proofs.Readback.{tree-read}
 
 pub drop-one : (s : List ℕ) (i : ℕ) → i < length s → drop i s ≡ getD s i 0 ∷ drop (i + 1) s
 drop-one s i h = rw (add-one, drop-cons s i 0)
@@ -62,7 +63,7 @@ module _ (s : List ℕ) (at limit : ℕ) where
           let z : at + size t ≡ next = cc in
           let g = tree-read (suc (limit + limit)) limit (drop at s) t p in
           (omega (arith, size-positive t), omega (arith, g .1))
-      of (fault c) p q = absurd (let z : _≡_ {A = ℕ} 0 1 = cc in omega arith)
+      of (fault c) p q = clash cc
 
 -- Branches, by the first of them.
 module _ (s : List ℕ) (at left : ℕ) where
@@ -78,7 +79,7 @@ module _ (s : List ℕ) (at left : ℕ) where
     branches-refused (suc f) c h p e = rw (ne-eqb left 0 (λ z. omega arith)) (of (readTree f left (drop at s)) _ (sym e ∙ first f (omega arith)))
       where
         of : (o : Result Tree) (g : Tree → Result (List Tree)) → Refused c ≡ walked at o → r ≡ walkedAll at (andThen o g)
-        of (done t) g q = absurd (let z : _≡_ {A = ℕ} 0 1 = cc in omega arith)
+        of (done t) g q = clash cc
         of (fault d) g q = e ∙ q
 
     pub branches-next : (f : ℕ) (next : ℕ) (a : Read) → left + left + 1 < f → 0 < left → r ≡ Past next
@@ -101,7 +102,7 @@ module _ (s : List ℕ) (at left : ℕ) where
             let z : next ≡ at + size t = cc in
             let d : next - at ≡ size t = omega arith in
             rw (drop-drop, d, z) (joined t (readBranches f (left - size t) (drop (at + size t) s)))
-        of (fault d) q = absurd (let z : _≡_ {A = ℕ} 0 1 = cc in omega arith)
+        of (fault d) q = clash cc
 
 -- a tree of one point
 pub tree-leaf : (s : List ℕ) (at limit : ℕ) (f : ℕ) → limit + limit < f → at < length s → getD s at 0 ≤ limit → getD s at 0 ≡ 1

@@ -7,8 +7,8 @@ use Rattle.patterns.specs.declared.Refusal.the-variants.{Truncated, Sizes}
 use Rattle.patterns.specs.Tree.{Tree, size}
 use Rattle.patterns.specs.Component.{Component, points}
 use Rattle.patterns.specs.Reading.{Result, done, fault, readTrees}
-use Rattle.reading.specs.declared.Read.{Read}
-use Rattle.reading.specs.declared.Read.the-variants.{Past, Refused}
+use Rattle.tree_reading.specs.declared.Read.{Read}
+use Rattle.tree_reading.specs.declared.Read.the-variants.{Past, Refused}
 
 -- a tree read from place `at` on takes as many numbers as it has points
 abbrev pub walked : ℕ → Result Tree → Read
