@@ -8,7 +8,7 @@ use native.Mathlib.Numerals.{add-one}
 use lib.Dec.{eqb}
 use borrow.Author.Tests.{eq-eqb, ne-eqb, eqb-true, eqb-false}
 use lib.ListN.{length, getD, set, take, drop, replicate, length-drop, length-append, length-replicate, length-set, drop-of-length-le}
-use lib.Seq.{drop-cons, drop-length, getD-set-same, drop-set-lt, drop-append-le, take-at, length-take-le, length-front}
+use lib.Seq.{drop-cons, drop-length, getD-set-same, drop-set-lt, take-all}
 use Rattle.lists.specs.Order.{then, atMost}
 use Rattle.lists.specs.Blocks.{orderingOf}
 use Rattle.lists.specs.declared.Order.{Order}
@@ -191,31 +191,26 @@ module _ {s₀ keys₀ s keys : List ℕ} {at : ℕ} (w : Tracing s₀ keys₀ s
             ∙ ap (λ m. path (parent (w .reached)) ++ m) (sym d);
       }
 
--- Scratch arrays: the first n places are lent and come back.
-module _ (x : List ℕ) (n : ℕ) (h : n ≤ length x) where
-  pub lent-length : length (take n x) ≡ n
-  lent-length = length-take-le n x h
+-- a buffer of n keys read from where the path begins to its end
+pub traced-whole : {c : Component} {i : ℕ} {keys : List ℕ} → Traced c i keys → (n : ℕ) → length keys ≡ n → take (n - i) (drop i keys) ≡ path c
+traced-whole {c} {i} {keys} t n e = take-all (n - i) (drop i keys) (omega (arith, length-drop i keys, e)) ∙ t .is
 
-  module _ (y : List ℕ) (k : length y ≡ length (take n x)) where
-    pub back-length : length (y ++ drop n x) ≡ length x
-    back-length = length-front x y n k
+-- Two components: the numbers of points decide, and where they are equal the paths.
+module _ (c d : Component) {s t : List ℕ} (e : s ≡ flat c) (f : t ≡ flat d) where
+  pub fewer-points : length s < length t → Ordering·lt ≡ compareGenerated c d
+  unfolding compareGenerated
+  fewer-points h = rw (compare-lt (points c) (points d) (omega (arith, ap length e, ap length f, length-flat c, length-flat d)))
 
-    -- what is lent again from i on
-    pub back-part : (i : ℕ) → i ≤ length y → take (n - i) (drop i (y ++ drop n x)) ≡ drop i y
-    back-part i q =
-        ap (take (n - i)) (drop-append-le i y (drop n x) q)
-        ∙ take-at (drop i y) (drop n x) (n - i) (length-drop i y ∙ ap (λ m. m - i) (k ∙ lent-length))
+  pub more-points : length t < length s → Ordering·gt ≡ compareGenerated c d
+  unfolding compareGenerated
+  more-points h = rw (compare-gt (points c) (points d) (omega (arith, ap length e, ap length f, length-flat c, length-flat d)))
 
-    pub traced-within : {c : Component} {i : ℕ} → Traced c i y → i ≤ n
-    traced-within t = omega (arith, t .within, k, lent-length)
-
--- comparing the paths is comparing in generation order
-pub generated-by-paths : {s t : List ℕ} → HeldPair s t → (c d : Component) → s ≡ flat c → t ≡ flat d
-    → lexBy compare not true (path c) (path d) ≡ compareGenerated c d
-generated-by-paths h c d e f =
-    let p : h .left ≡ c = flat-injective (h .left) c (sym (h .left-is) ∙ e) in
-    let q : h .right ≡ d = flat-injective (h .right) d (sym (h .right-is) ∙ f) in
-    let n : points c ≡ points d = omega (arith, length-flat c, length-flat d, ap length e, ap length f, h .points-equal) in
-    sym
-    (generated-paths c d (sym (ap validComponent p) ∙ h .left-valid) (sym (ap validComponent q) ∙ h .right-valid)
-    ∙ ap (λ o. then o (lexBy compare not true (path c) (path d))) (ap (compare (points c)) (sym n) ∙ compare-self (points c)))
+  pub generated-by-paths : HeldPair s t → length t ≡ length s → lexBy compare not true (path c) (path d) ≡ compareGenerated c d
+  generated-by-paths h l =
+      let p : h .first ≡ c = flat-injective (h .first) c (sym (h .first-is) ∙ e) in
+      let q : h .second ≡ d = flat-injective (h .second) d (sym (h .second-is) ∙ f) in
+      let n : points d ≡ points c = omega (arith, length-flat c, length-flat d, ap length e, ap length f, l) in
+      let v = h .valid (sym l) in
+      sym
+      (generated-paths c d (sym (ap validComponent p) ∙ v .0) (sym (ap validComponent q) ∙ v .1)
+      ∙ ap (λ o. then o (lexBy compare not true (path c) (path d))) (ap (compare (points c)) n ∙ compare-self (points c)))

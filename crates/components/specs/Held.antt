@@ -37,16 +37,22 @@ pub record HeldTrace (s work keys : List ℕ) : Type 0 where
   pub key-room : length keys ≡ length s
   pub small : length s ≤ 200
 
--- two valid components of equally many points, 200 at most
+-- two components of 200 points at most, both valid where they have equally many points
 pub record HeldPair (s t : List ℕ) : Type 0 where
-  pub left : Component
-  pub right : Component
-  pub left-is : s ≡ flat left
-  pub right-is : t ≡ flat right
-  pub left-valid : validComponent left ≡ true
-  pub right-valid : validComponent right ≡ true
-  pub points-equal : length s ≡ length t
-  pub small : length s ≤ 200
+  pub first : Component
+  pub second : Component
+  pub first-is : s ≡ flat first
+  pub second-is : t ≡ flat second
+  pub valid : length s ≡ length t → (validComponent first ≡ true) × (validComponent second ≡ true)
+  pub small : (length s ≤ 200) × (length t ≤ 200)
+
+-- two of equally many points, a buffer of as many numbers, and room for as many keys of each
+pub record HeldPaths (s t work keys others : List ℕ) : Type 0 where
+  pub pair : HeldPair s t
+  pub equal : length t ≡ length s
+  pub room : length work ≡ length s
+  pub key-room : length keys ≡ length s
+  pub other-room : length others ≡ length s
 
 -- how many trees of one point a component begins with
 abbrev pub leadingPoints : Component → ℕ

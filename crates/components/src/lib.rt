@@ -17,8 +17,9 @@ ghost use Rattle.lists.proofs.Lex.{lexBy};
 ghost use Rattle.patterns.specs.Tree.{Tree, code, validTree};
 ghost use Rattle.patterns.specs.Component.{Component, flat, compareComponent, rotations, validComponent};
 ghost use Rattle.patterns.specs.System.{compareGenerated};
+ghost use Rattle.component_theory.specs.Path.{path};
 ghost use Rattle.memory.specs.Memory.{Held, HeldTree};
-ghost use Rattle.components.specs.Held.{HeldBeside, HeldKeys, HeldTrace, HeldPair, leadingPoints, lastStart, Climbed, Traced};
+ghost use Rattle.components.specs.Held.{HeldBeside, HeldKeys, HeldTrace, HeldPair, HeldPaths, leadingPoints, lastStart, Climbed, Traced};
 
 // A step from a component to its parent: there is none, or the place of the component among its parent's candidates.
 pub enum Climb {
@@ -268,16 +269,32 @@ fn blank_keys() -> [u16; 200]
     [0u16; 200]
 }
 
-// Which of two valid components of equally many points comes first in generation order [document 01, "Generation order of components with n points"].
+// Which of two components of equally many points has the path that comes first.
+fn compare_by_paths(a: &[u8], b: &[u8], work: &mut [u8], first: &mut [u16], second: &mut [u16]) -> Order
+    requires { ⌜ HeldPaths (now a) (now b) (now work) (now first) (now second) ⌝ }
+    ensures { λ r. ⌜ ((c d : Component) → now (a .entry) ≡ flat c → now (b .entry) ≡ flat d
+        → orderingOf r ≡ lexBy compareNumbers not true (path c) (path d)) ⌝ }
+{
+    let n = a.len();
+    let i = path_of(a, work, first);
+    let j = path_of(b, work, second);
+    compare_paths(&first[i..n], &second[j..n])
+}
+
+// Which of two components comes first: by number of points, and among equal numbers by generation order [document 004, Definition 14].
 pub fn compare_generated(a: &[u8], b: &[u8]) -> Order
     requires { ⌜ HeldPair (now a) (now b) ⌝ }
     ensures { λ r. ⌜ ((c d : Component) → now (a .entry) ≡ flat c → now (b .entry) ≡ flat d → orderingOf r ≡ compareGenerated c d) ⌝ }
 {
     let n = a.len();
+    if n < b.len() {
+        return Order::Less;
+    }
+    if b.len() < n {
+        return Order::Greater;
+    }
     let mut work = points_room();
     let mut first = blank_keys();
     let mut second = blank_keys();
-    let i = path_of(a, &mut work[..n], &mut first[..n]);
-    let j = path_of(b, &mut work[..n], &mut second[..n]);
-    compare_paths(&first[i..n], &second[j..n])
+    compare_by_paths(a, b, &mut work[..n], &mut first[..n], &mut second[..n])
 }

@@ -70,14 +70,12 @@ pub neighbours-pair : {left right : List ℕ} (n : Neighbours left right) → va
     → HeldPair left right
 neighbours-pair {left} {right} n v h k =
     record {
-      left = n .before;
-      right = n .after;
-      left-is = n .before-is;
-      right-is = n .after-is;
-      left-valid = of (n .valid);
-      right-valid = v;
-      points-equal = omega arith;
-      small = omega (arith, n .small);
+      first = n .before;
+      second = n .after;
+      first-is = n .before-is;
+      second-is = n .after-is;
+      valid = λ _. (of (n .valid), v);
+      small = (omega (arith, n .small), n .small);
     }
   where
     of : (n .before ≡ []) ⊎ (validComponent (n .before) ≡ true) → validComponent (n .before) ≡ true

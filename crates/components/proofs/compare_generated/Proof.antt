@@ -1,233 +1,83 @@
 use denote.Ref.{now}
-use mathlib.Core.Bool.{true, not}
-use mathlib.Core.Path.{sym, ap₂, _∙_}
-use mathlib.Core.List.{_++_}
-use Prim.Native.Nat.{compare}
+use mathlib.Core.Path.{_≡_, sym, _∙_}
+use Prim.Native.Nat.{ℕ}
 use native.Mathlib.Omega.{arith}
 use borrow.Author.Needs.{needs}
-use lib.ListN.{length, drop}
-use Rattle.lists.proofs.Lex.{lexBy}
-use Rattle.components.proofs.Tracing.{lent-length, back-length, back-part, traced-within, generated-by-paths}
+use lib.ListN.{length, take}
+use lib.Seq.{length-take-le}
+use Rattle.components.proofs.Tracing.{fewer-points, more-points, generated-by-paths}
 use Rattle.components.proofs.compare_generated.Statement.{statement}
 use Rattle.components.proofs.compare_generated.Tie as tie
 
-points-room-requires : tie.Need-points-room-requires
-points-room-requires c κs = search needs
+-- equally many points
+abbrev start : tie.Else2 → tie.Start
+start c = c .before .before .before .before
 
-blank-keys-requires : tie.Need-blank-keys-requires
-blank-keys-requires c κs = search needs
+abbrev N : tie.Else2 → ℕ
+N c = length (now (start c .args .a))
 
-blank-keys-requires-2 : tie.Need-blank-keys-requires-2
-blank-keys-requires-2 c κs = search needs
+equal : (c : tie.Else2) → length (now (start c .args .b)) ≡ N c
+equal c = omega arith
 
-array-borrow-prefix-work : tie.Need-array-borrow-prefix-work
-array-borrow-prefix-work c = search needs
+-- the part of each scratch array that is lent
+abbrev found : tie.After-blank-keys2 → tie.Else2
+found c = c .before .before .before
 
-slice-aggregate-path-of : tie.Need-slice-aggregate-path-of
-slice-aggregate-path-of c =
-    let work = c .before .before .before in
-    let start = work .before .before .before in
-    let n = length (now (start .args .a)) in
-    sym (lent-length (work .points-room .result) n (omega arith))
+lent-work : (c : tie.After-blank-keys2) → length (take (N (found c)) (c .before .before .points-room .result)) ≡ N (found c)
+lent-work c = length-take-le (N (found c)) (c .before .before .points-room .result) (omega arith)
 
-array-borrow-prefix-first : tie.Need-array-borrow-prefix-first
-array-borrow-prefix-first c = search needs
+lent-first : (c : tie.After-blank-keys2) → length (take (N (found c)) (c .before .blank-keys .result)) ≡ N (found c)
+lent-first c = length-take-le (N (found c)) (c .before .blank-keys .result) (omega arith)
 
-slice-aggregate-path-of-2 : tie.Need-slice-aggregate-path-of-2
-slice-aggregate-path-of-2 c =
-    let keys = c .before .before .before in
-    let start = keys .before .before .before .before in
-    let n = length (now (start .args .a)) in
-    sym (lent-length (keys .blank-keys .result) n (omega arith))
-
-path-of-requires : tie.Need-path-of-requires
-path-of-requires c κs =
-    let keys = c .before .before .before in
-    let work = keys .before in
-    let start = work .before .before .before in
-    let n = length (now (start .args .a)) in
-    record {
-      trees = start .pre .left;
-      is = start .pre .left-is;
-      room = lent-length (work .points-room .result) n (omega arith);
-      key-room = lent-length (keys .blank-keys .result) n (omega arith);
-      small = start .pre .small;
-    }
-
-array-borrow-prefix-work-2 : tie.Need-array-borrow-prefix-work-2
-array-borrow-prefix-work-2 c =
-    let one = c .before .before in
-    let work = one .before .before .before .before .before in
-    let start = work .before .before .before in
-    let n = length (now (start .args .a)) in
-    rw (back-length (work .points-room .result) n (omega arith) (one .path-of .last .1 .0) (one .path-of .kept .1 .0)) (omega arith)
-
-slice-aggregate-path-of-3 : tie.Need-slice-aggregate-path-of-3
-slice-aggregate-path-of-3 c =
-    let one = c .before .before .before in
-    let work = one .before .before .before .before .before in
-    let start = work .before .before .before in
-    let n = length (now (start .args .a)) in
-    sym (lent-length (one .path-of .last .1 .0 ++ drop n (work .points-room .result)) n (rw (back-length (work .points-room .result) n (omega arith) (one .path-of .last .1 .0) (one .path-of .kept .1 .0)) (omega arith)))
-
-array-borrow-prefix-second : tie.Need-array-borrow-prefix-second
-array-borrow-prefix-second c = search needs
-
-slice-aggregate-path-of-4 : tie.Need-slice-aggregate-path-of-4
-slice-aggregate-path-of-4 c =
-    let keys = c .before .before .before .before .before .before .before in
-    let start = keys .before .before .before .before .before in
-    let n = length (now (start .args .a)) in
-    sym (lent-length (keys .blank-keys2 .result) n (omega arith))
-
-path-of-requires-2 : tie.Need-path-of-requires-2
-path-of-requires-2 c κs =
-    let one = c .before .before .before .before in
-    let keys = one .before .before .before in
-    let work = keys .before .before in
-    let start = work .before .before .before in
-    let n = length (now (start .args .a)) in
-    let e = start .pre .points-equal in
-    record {
-      trees = start .pre .right;
-      is = start .pre .right-is;
-      room =
-          lent-length (one .path-of .last .1 .0 ++ drop n (work .points-room .result)) n
-          (rw (back-length (work .points-room .result) n (omega arith) (one .path-of .last .1 .0) (one .path-of .kept .1 .0)) (omega arith)) ∙ e;
-      key-room = lent-length (keys .blank-keys2 .result) n (omega arith) ∙ e;
-      small = rw (sym e) (start .pre .small);
-    }
-
-mul-compare-paths : tie.Need-mul-compare-paths
-mul-compare-paths c =
-    let one = c .before .before .before .before .before .before .before in
-    let keys = one .before .before .before .before in
-    let start = keys .before .before .before .before in
-    let n = length (now (start .args .a)) in
-    let t = one .path-of in
-    let d = t .ensures (start .pre .left) (start .pre .left-is) in
-    let i = traced-within (keys .blank-keys .result) n (omega arith) (t .last .1 .1 .0) (t .kept .1 .1 .0) d in
-    omega arith
-
-sub-compare-paths : tie.Need-sub-compare-paths
-sub-compare-paths c =
-    let one = c .before .before .before .before .before .before .before in
-    let keys = one .before .before .before .before in
-    let start = keys .before .before .before .before in
-    let n = length (now (start .args .a)) in
-    let t = one .path-of in
-    let d = t .ensures (start .pre .left) (start .pre .left-is) in
-    let i = traced-within (keys .blank-keys .result) n (omega arith) (t .last .1 .1 .0) (t .kept .1 .1 .0) d in
-    omega arith
-
-part-compare-paths-start : tie.Need-part-compare-paths-start
-part-compare-paths-start c =
-    let one = c .before .before .before .before .before .before .before .before in
-    let keys = one .before .before .before .before in
-    let start = keys .before .before .before .before in
-    let n = length (now (start .args .a)) in
-    let t = one .path-of in
-    let d = t .ensures (start .pre .left) (start .pre .left-is) in
-    let i = traced-within (keys .blank-keys .result) n (omega arith) (t .last .1 .1 .0) (t .kept .1 .1 .0) d in
-    omega arith
-
-part-compare-paths-end : tie.Need-part-compare-paths-end
-part-compare-paths-end c =
-    let one = c .before .before .before .before .before .before .before .before in
-    let keys = one .before .before .before .before in
-    let start = keys .before .before .before .before in
-    let n = length (now (start .args .a)) in
-    let t = one .path-of in
-    rw (back-length (keys .blank-keys .result) n (omega arith) (t .last .1 .1 .0) (t .kept .1 .1 .0)) (omega arith)
-
-mul-compare-paths-2 : tie.Need-mul-compare-paths-2
-mul-compare-paths-2 c =
-    let one = c .before .before .before .before in
-    let keys = one .before .before .before .before .before .before .before .before in
-    let start = keys .before .before .before .before .before in
-    let n = length (now (start .args .a)) in
-    let t = one .path-of2 in
-    let d = t .ensures (start .pre .right) (start .pre .right-is) in
-    let i = traced-within (keys .blank-keys2 .result) n (omega arith) (t .last .1 .1 .0) (t .kept .1 .1 .0) d in
-    omega arith
-
-sub-compare-paths-2 : tie.Need-sub-compare-paths-2
-sub-compare-paths-2 c =
-    let one = c .before .before .before .before in
-    let keys = one .before .before .before .before .before .before .before .before in
-    let start = keys .before .before .before .before .before in
-    let n = length (now (start .args .a)) in
-    let t = one .path-of2 in
-    let d = t .ensures (start .pre .right) (start .pre .right-is) in
-    let i = traced-within (keys .blank-keys2 .result) n (omega arith) (t .last .1 .1 .0) (t .kept .1 .1 .0) d in
-    omega arith
-
-part-compare-paths-start-2 : tie.Need-part-compare-paths-start-2
-part-compare-paths-start-2 c =
-    let one = c .before .before .before .before .before in
-    let keys = one .before .before .before .before .before .before .before .before in
-    let start = keys .before .before .before .before .before in
-    let n = length (now (start .args .a)) in
-    let t = one .path-of2 in
-    let d = t .ensures (start .pre .right) (start .pre .right-is) in
-    let i = traced-within (keys .blank-keys2 .result) n (omega arith) (t .last .1 .1 .0) (t .kept .1 .1 .0) d in
-    omega arith
-
-part-compare-paths-end-2 : tie.Need-part-compare-paths-end-2
-part-compare-paths-end-2 c =
-    let one = c .before .before .before .before .before in
-    let keys = one .before .before .before .before .before .before .before .before in
-    let start = keys .before .before .before .before .before in
-    let n = length (now (start .args .a)) in
-    let t = one .path-of2 in
-    rw (back-length (keys .blank-keys2 .result) n (omega arith) (t .last .1 .1 .0) (t .kept .1 .1 .0)) (omega arith)
-
-compare-paths-requires : tie.Need-compare-paths-requires
-compare-paths-requires c κs = search needs
+lent-second : (c : tie.After-blank-keys2) → length (take (N (found c)) (c .blank-keys2 .result)) ≡ N (found c)
+lent-second c = length-take-le (N (found c)) (c .blank-keys2 .result) (omega arith)
 
 returns : tie.Need-returns
-returns c =
-    let two = c .before .before .before .before .before .before .before in
-    let one = two .before .before .before .before .before in
-    let keys2 = one .before .before .before in
-    let keys = keys2 .before in
-    let start = keys .before .before .before .before in
-    let n = length (now (start .args .a)) in
-    let t = one .path-of in
-    let u = two .path-of2 in
-    λ d e q r.
-    let a = t .ensures d q in
-    let b = u .ensures e r in
-    c .compare-paths .ensures
-    ∙ ap₂ (lexBy compare not true)
-    (back-part (keys .blank-keys .result) n (omega arith) (t .last .1 .1 .0) (t .kept .1 .1 .0) (t .result) (a .within) ∙ a .is)
-    (back-part (keys2 .blank-keys2 .result) n (omega arith) (u .last .1 .1 .0) (u .kept .1 .1 .0) (u .result) (b .within) ∙ b .is)
-    ∙ generated-by-paths (start .pre) d e q r
+returns c = λ x y e f. fewer-points x y e f (c .if1 .taken)
+
+returns-2 : tie.Need-returns-2
+returns-2 c = λ x y e f. more-points x y e f (c .if2 .taken)
+
+slice-aggregate-compare-by-paths : tie.Need-slice-aggregate-compare-by-paths
+slice-aggregate-compare-by-paths c = sym (lent-work (c .before))
+
+slice-aggregate-compare-by-paths-2 : tie.Need-slice-aggregate-compare-by-paths-2
+slice-aggregate-compare-by-paths-2 c = sym (lent-first (c .before .before))
+
+slice-aggregate-compare-by-paths-3 : tie.Need-slice-aggregate-compare-by-paths-3
+slice-aggregate-compare-by-paths-3 c = sym (lent-second (c .before .before .before))
+
+compare-by-paths-requires : tie.Need-compare-by-paths-requires
+compare-by-paths-requires c κs =
+    let room = c .before .before .before in
+    record {
+      pair = start (found room) .pre;
+      equal = equal (found room);
+      room = lent-work room;
+      key-room = lent-first room;
+      other-room = lent-second room;
+    }
+
+returns-3 : tie.Need-returns-3
+returns-3 c =
+    let call = c .before .before .before in
+    let here = found (call .before .before .before .before) in
+    λ x y e f. call .compare-by-paths .ensures x y e f ∙ generated-by-paths x y e f (start here .pre) (equal here)
 
 pub compare-generated-spec : {M : Type 1} → statement M
 compare-generated-spec =
     tie.close
     (tie.spec
-    points-room-requires
-    blank-keys-requires
-    blank-keys-requires-2
-    array-borrow-prefix-work
-    slice-aggregate-path-of
-    array-borrow-prefix-first
-    slice-aggregate-path-of-2
-    path-of-requires
-    array-borrow-prefix-work-2
-    slice-aggregate-path-of-3
-    array-borrow-prefix-second
-    slice-aggregate-path-of-4
-    path-of-requires-2
-    mul-compare-paths
-    sub-compare-paths
-    part-compare-paths-start
-    part-compare-paths-end
-    mul-compare-paths-2
-    sub-compare-paths-2
-    part-compare-paths-start-2
-    part-compare-paths-end-2
-    compare-paths-requires
-    returns)
+    returns
+    returns-2
+    (λ c κs. search needs)
+    (λ c κs. search needs)
+    (λ c κs. search needs)
+    (λ c. search needs)
+    slice-aggregate-compare-by-paths
+    (λ c. search needs)
+    slice-aggregate-compare-by-paths-2
+    (λ c. search needs)
+    slice-aggregate-compare-by-paths-3
+    compare-by-paths-requires
+    returns-3)

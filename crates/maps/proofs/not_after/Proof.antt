@@ -18,14 +18,12 @@ compare-generated-requires : tie.Need-compare-generated-requires
 compare-generated-requires c κs =
     let p = c .before .before .before .before .pre in
     record {
-      left = p .left;
-      right = p .right;
-      left-is = p .left-is;
-      right-is = p .right-is;
-      left-valid = p .left-valid;
-      right-valid = p .right-valid;
-      points-equal = omega arith;
-      small = p .small .0;
+      first = p .left;
+      second = p .right;
+      first-is = p .left-is;
+      second-is = p .right-is;
+      valid = λ _. (p .left-valid, p .right-valid);
+      small = p .small;
     }
 
 enum-told : tie.Need-enum-told
