@@ -1,236 +1,115 @@
 -- Whether a system in memory is canonical: the components one after another, each beside its left neighbour.
-use mathlib.Core.Path.{_≡_, refl, ap, ap₂, sym, _∙_}
+use mathlib.Core.Path.{_≡_, refl, ap, sym, _∙_}
 use mathlib.Core.Logic.{_⊎_, inl, inr}
 use mathlib.Core.Bool.{true, false, _&&_, true≢false}
-use mathlib.Core.List.{List, [], _∷_, _++_, map, append-assoc, head-eq-of-cons-eq, tail-eq-of-cons-eq}
-use Prim.Native.Nat.{ℕ, _+_, _-_, _≤_, _<_}
+use mathlib.Core.List.{List, [], _∷_}
+use Prim.Native.Nat.{ℕ, suc, _+_, _-_, _≤_, _<_}
+use native.Mathlib.Numerals.{add-one}
 use native.Mathlib.Omega.{arith}
-use lib.Dec.{isLe}
-use lib.ListN.{length, take, drop, getD, length-append, length-drop}
-use lib.Seq.{take-at, drop-at}
-use Rattle.lists.specs.declared.Order.{Order}
-use Rattle.lists.specs.Blocks.{orderingOf}
+use lib.ListN.{length, take, drop, getD, drop-of-length-le}
+use lib.Seq.{drop-cons}
 use Rattle.lists.specs.Order.{atMost}
-use Rattle.lists.specs.Select.{each, gather}
-use Rattle.lists.proofs.Tests.{and-true}
-use Rattle.lists.proofs.Comparison.{compare-lt, compare-gt}
 use Rattle.patterns.specs.Component.{Component, points, flat, validComponent}
 use Rattle.patterns.specs.System.{System, weight, compareGenerated, inOrder, canonical}
-use Rattle.patterns.proofs.Trees.{size-positive, length-flat, flat-injective}
+use Rattle.patterns.proofs.Trees.{size-positive, length-flat}
 use Rattle.patterns.proofs.Rotations.{valid-parts}
-use Rattle.memory.specs.Memory.{Holds}
-use Rattle.reading.specs.Held.{Neighbours}
-use Rattle.memory.specs.Memory.{HeldSystem}
+use Rattle.memory.specs.Memory.{Held, Holds, HeldSystem}
 use Rattle.components.specs.Held.{HeldPair}
-use Rattle.reading.proofs.Walking.{drop-one}
-
--- What two lists hold is one system.
-
-gather-flat-first : (c d : Component) (l m : List ℕ) → points c ≡ points d → flat c ++ l ≡ flat d ++ m → (c ≡ d) × (l ≡ m)
-gather-flat-first c d l m e f =
-    let n = length-flat c in
-    let k : length (flat d) ≡ points c = length-flat d ∙ sym e in (
-      flat-injective c d (sym (take-at (flat c) l (points c) n) ∙ ap (take (points c)) f ∙ take-at (flat d) m (points c) k),
-      sym (drop-at (flat c) l (points c) n) ∙ ap (drop (points c)) f ∙ drop-at (flat d) m (points c) k,
-    )
-
-same-system : (S R : System) → map points S ≡ map points R → gather flat S ≡ gather flat R → S ≡ R
-same-system [] [] e f = refl
-same-system [] (d ∷ R) e f = absurd (omega (arith, ap length e))
-same-system (c ∷ S) [] e f = absurd (omega (arith, ap length e))
-same-system (c ∷ S) (d ∷ R) e f =
-    let g = gather-flat-first c d (gather flat S) (gather flat R) (head-eq-of-cons-eq e) f in
-    ap₂ _∷_ (g .0) (same-system S R (tail-eq-of-cons-eq e) (g .1))
-
-pub holds-unique : {S R : System} {sizes trees : List ℕ} → Holds S sizes trees → Holds R sizes trees → S ≡ R
-holds-unique {S} {R} h k = same-system S R (sym (h .points-are) ∙ k .points-are) (sym (h .flat-is) ∙ k .flat-is)
-
-pub length-gather-flat : (S : System) → length (gather flat S) ≡ weight S
-length-gather-flat [] = refl
-length-gather-flat (c ∷ S) = omega (arith, length-append (flat c) (gather flat S), length-flat c, length-gather-flat S)
-
--- Two neighbours.
-
--- fewer points come first, whatever the generation order says
-fewer-first : (p c : Component) → points p < points c → atMost compareGenerated p c ≡ true
-unfolding compareGenerated
-fewer-first p c h = rw (compare-lt (points p) (points c) h)
-
-more-later : (p c : Component) → points c < points p → atMost compareGenerated p c ≡ false
-unfolding compareGenerated
-more-later p c h = rw (compare-gt (points p) (points c) h)
+use Rattle.systems.proofs.Parts.{held-count, held-points, held-size, held-fits, held-part, held-next, held-unique}
 
 -- a valid component has a point
 valid-points : (c : Component) → validComponent c ≡ true → 0 < points c
 valid-points [] v = absurd (true≢false (sym ((valid-parts [] v) .0)))
 valid-points (t ∷ c) v = omega (arith, size-positive t)
 
--- two of equally many points, the right one valid: so is the left one
-pub neighbours-pair : {left right : List ℕ} (n : Neighbours left right) → validComponent (n .after) ≡ true → length right ≤ length left → length left ≤ length right
-    → HeldPair left right
-neighbours-pair {left} {right} n v h k =
-    record {
-      first = n .before;
-      second = n .after;
-      first-is = n .before-is;
-      second-is = n .after-is;
-      valid = λ _. (of (n .valid), v);
-      small = (omega (arith, n .small), n .small);
-    }
-  where
-    of : (n .before ≡ []) ⊎ (validComponent (n .before) ≡ true) → validComponent (n .before) ≡ true
-    of (inl e) =
-        absurd (omega (arith, ap length (n .before-is ∙ ap flat e), ap length (n .after-is), length-flat (n .after), valid-points (n .after) v))
-    of (inr v) = v
-
-module _ (p c : Component) {left right : List ℕ} (e : left ≡ flat p) (f : right ≡ flat c) where
-  pub place-fewer : validComponent c ≡ true → length left < length right → true ≡ (validComponent c && atMost compareGenerated p c)
-  place-fewer v h = rw (v, fewer-first p c (omega (arith, ap length e, ap length f, length-flat p, length-flat c)))
-
-  pub place-more : validComponent c ≡ true → length right < length left → false ≡ (validComponent c && atMost compareGenerated p c)
-  place-more v h = rw (v, more-later p c (omega (arith, ap length e, ap length f, length-flat p, length-flat c)))
-
--- equally many points: the generation order decides
-pub place-compared : (p c : Component) (o : Order) → validComponent c ≡ true → orderingOf o ≡ compareGenerated p c
-    → isLe (orderingOf o) ≡ (validComponent c && atMost compareGenerated p c)
-place-compared p c o v e = rw (v, e)
-
--- The components before place i have been found in order; the one before it is p, from `last` to `at`, and `rest` are left.
+-- The components before place i are in order. The last of them is p, from `last` to `at`; before the first there is none.
 pub record Checking (sizes trees : List ℕ) (last at i : ℕ) : Type 0 where
+  pub held : HeldSystem sizes trees
   pub p : Component
-  pub rest : System
-  pub earlier : List ℕ
-  pub begins : length earlier ≡ last
-  pub ends : at ≡ last + points p
   pub turn : i ≤ length sizes
-  pub points-are : drop i sizes ≡ map points rest
-  pub flat-is : trees ≡ earlier ++ (flat p ++ gather flat rest)
+  pub place : at ≡ weight (take i (held .system))
+  pub left-place : last + points p ≡ at
+  pub left-is : take (at - last) (drop last trees) ≡ flat p
   pub valid : (p ≡ []) ⊎ (validComponent p ≡ true)
-  pub small : length trees ≤ 200
-  pub order : (S : System) → Holds S sizes trees → canonical S ≡ inOrder p rest
+  pub order : canonical (held .system) ≡ inOrder p (drop i (held .system))
 
 pub checking-start : {sizes trees : List ℕ} → HeldSystem sizes trees → Checking sizes trees 0 0 0
 unfolding canonical
-checking-start {sizes} {trees} h =
-    record {
-      p = [];
-      rest = h .system;
-      earlier = [];
-      begins = refl;
-      ends = refl;
-      turn = omega arith;
-      points-are = h .holds .points-are;
-      flat-is = h .holds .flat-is;
-      valid = inl refl;
-      small = omega (arith, ap length (h .holds .flat-is), length-gather-flat (h .system), h .small);
-      order = λ S k. ap canonical (holds-unique k (h .holds));
-    }
-
--- the component at place i
-pub record Next {sizes trees : List ℕ} {last at i : ℕ} (w : Checking sizes trees last at i) (c : Component) (R : System) : Type 0 where
-  pub rest-is : w .rest ≡ c ∷ R
-  pub size-is : getD sizes i 0 ≡ points c
-  pub left-is : take (at - last) (drop last trees) ≡ flat (w .p)
-  pub right-is : take (getD sizes i 0) (drop at trees) ≡ flat c
-  pub within : at + getD sizes i 0 ≤ length trees
+checking-start h =
+    record { held = h; p = []; turn = omega arith; place = refl; left-place = refl; left-is = refl; valid = inl refl; order = refl }
 
 module _ {sizes trees : List ℕ} {last at i : ℕ} (w : Checking sizes trees last at i) where
-  left-part : take (at - last) (drop last trees) ≡ flat (w .p)
-  left-part =
-      let e : at - last ≡ points (w .p) = omega (arith, w .ends) in
-      rw (e, w .flat-is, drop-at (w .earlier) (flat (w .p) ++ gather flat (w .rest)) last (w .begins))
-      (take-at (flat (w .p)) (gather flat (w .rest)) (points (w .p)) (length-flat (w .p)))
+  abbrev S : System
+  S = w .held .system
 
-  after-left : drop at trees ≡ gather flat (w .rest)
-  after-left =
-      let q : trees ≡ w .earlier ++ flat (w .p) ++ gather flat (w .rest) = w .flat-is ∙ sym (append-assoc (w .earlier) (flat (w .p)) (gather flat (w .rest))) in
-      ap (drop at) q
-      ∙ drop-at (w .earlier ++ flat (w .p)) (gather flat (w .rest)) at
-      (omega (arith, length-append (w .earlier) (flat (w .p)), length-flat (w .p), w .begins, w .ends))
+  -- the component at place i, from `at` to `end`
+  module _ (h : i < length sizes) (end : ℕ) (e : end ≡ at + getD sizes i 0) where
+    abbrev c : Component
+    c = getD S i []
 
-  all-numbers : length trees ≡ at + weight (w .rest)
-  all-numbers =
-      omega (
-        arith,
-        ap length (w .flat-is),
-        length-append (w .earlier) (flat (w .p) ++ gather flat (w .rest)),
-        length-append (flat (w .p)) (gather flat (w .rest)),
-        length-flat (w .p),
-        length-gather-flat (w .rest),
-        w .begins,
-        w .ends,
-      )
+    pub checking-within : (last ≤ at) × (at ≤ end) × (end ≤ length trees)
+    checking-within = (omega (arith, w .left-place), omega arith, omega (arith, held-fits (w .held .holds) i at h (w .place)))
 
-  pub checking-view : i < length sizes → (c : Component) × (R : System) × Next w c R
-  checking-view h = of (w .rest) refl
-    where
-      first : getD sizes i 0 ∷ drop (i + 1) sizes ≡ map points (w .rest)
-      first = sym (drop-one sizes i h) ∙ w .points-are
+    pub checking-part : take (end - at) (drop at trees) ≡ flat c
+    checking-part = held-part (w .held .holds) i at end h (w .place) e
 
-      of : (l : System) → w .rest ≡ l → (c : Component) × (R : System) × Next w c R
-      of [] e = absurd (omega (arith, ap length (first ∙ ap (map points) e)))
-      of (c ∷ R) e =
-          let s : getD sizes i 0 ≡ points c = head-eq-of-cons-eq (first ∙ ap (map points) e) in
-          let g : drop at trees ≡ flat c ++ gather flat R = after-left ∙ ap (gather flat) e in (
-            c,
-            R,
-            record {
-              rest-is = e;
-              size-is = s;
-              left-is = left-part;
-              right-is = rw (s, g) (take-at (flat c) (gather flat R) (points c) (length-flat c));
-              within = omega (arith, all-numbers, ap weight e);
-            },
-          )
+    pub checking-held : Held (take (end - at) (drop at trees))
+    checking-held = record { trees = c; is = checking-part }
 
-  module _ {c : Component} {R : System} (n : Next w c R) (h : i < length sizes) where
-    -- the two parts of memory
-    pub checking-neighbours : {left right : List ℕ} → left ≡ take (at - last) (drop last trees) → right ≡ take (getD sizes i 0) (drop at trees)
-        → Neighbours left right
-    checking-neighbours {left} {right} e f =
-        record {
-          before = w .p;
-          after = c;
-          before-is = e ∙ n .left-is;
-          after-is = f ∙ n .right-is;
-          valid = w .valid;
-          small = omega (arith, ap length (f ∙ n .right-is), length-flat c, n .size-is, n .within, w .small);
-        }
-
-    further : (S : System) → Holds S sizes trees → canonical S ≡ (validComponent c && atMost compareGenerated (w .p) c && inOrder c R)
+    further : canonical S ≡ (validComponent c && atMost compareGenerated (w .p) c && inOrder c (drop (i + 1) S))
     unfolding inOrder
-    further S k = w .order S k ∙ ap (inOrder (w .p)) (n .rest-is)
+    further =
+        let d : drop i S ≡ c ∷ drop (i + 1) S = rw (add-one i) (drop-cons S i [] (omega (arith, held-count (w .held .holds)))) in
+        w .order ∙ ap (inOrder (w .p)) d
 
-    -- it is in its place
-    pub checking-next : (validComponent c && atMost compareGenerated (w .p) c) ≡ true → Checking sizes trees at (at + getD sizes i 0) (i + 1)
-    checking-next t =
-        let a = and-true (validComponent c) (atMost compareGenerated (w .p) c) t in
-        let first : getD sizes i 0 ∷ drop (i + 1) sizes ≡ map points (c ∷ R) = sym (drop-one sizes i h) ∙ w .points-are ∙ ap (map points) (n .rest-is) in
-        let q : trees ≡ w .earlier ++ flat (w .p) ++ (flat c ++ gather flat R) =
-        w .flat-is ∙ sym (append-assoc (w .earlier) (flat (w .p)) (gather flat (w .rest))) ∙ ap (λ l. w .earlier ++ flat (w .p) ++ gather flat l) (n .rest-is) in
-        record {
-          p = c;
-          rest = R;
-          earlier = w .earlier ++ flat (w .p);
-          begins = omega (arith, length-append (w .earlier) (flat (w .p)), length-flat (w .p), w .begins, w .ends);
-          ends = ap (at +_) (n .size-is);
-          turn = omega arith;
-          points-are = tail-eq-of-cons-eq first;
-          flat-is = q;
-          valid = inr (a .0);
-          small = w .small;
-          order = λ S k. further S k ∙ ap (_&& inOrder c R) t;
-        }
+    -- it is not valid
+    pub checking-invalid : validComponent c ≡ false → (R : System) → Holds R sizes trees → false ≡ canonical R
+    checking-invalid v R k = sym (ap canonical (held-unique k (w .held .holds)) ∙ further ∙ rw v)
 
-    -- it is not
-    pub checking-fails : (validComponent c && atMost compareGenerated (w .p) c) ≡ false → (S : System) → Holds S sizes trees → false ≡ canonical S
-    checking-fails t S k = sym (further S k ∙ ap (_&& inOrder c R) t)
+    module _ (v : validComponent c ≡ true) where
+      -- it can be compared with its left neighbour
+      pub checking-pair : HeldPair (take (at - last) (drop last trees)) (take (end - at) (drop at trees))
+      checking-pair =
+          let m = held-points (w .held .holds) in
+          let l = ap length (w .left-is) ∙ length-flat (w .p) in
+          let r = ap length checking-part ∙ length-flat c in
+          let k : points c ≡ end - at = omega (arith, held-size (w .held .holds) i) in
+          record {
+            first = w .p;
+            second = c;
+            first-is = w .left-is;
+            second-is = checking-part;
+            valid = λ q. (of (w .valid) (omega (arith, q, l, r, valid-points c v)), v);
+            small = (omega (arith, m, l, w .held .small, w .left-place, checking-within), omega (arith, m, r, k, w .held .small, checking-within));
+          }
+        where
+          of : (w .p ≡ []) ⊎ (validComponent (w .p) ≡ true) → 0 < points (w .p) → validComponent (w .p) ≡ true
+          of (inl q) n = absurd (omega (arith, ap points q))
+          of (inr u) n = u
+
+      -- it comes before its left neighbour
+      pub checking-before : atMost compareGenerated (w .p) c ≡ false → (R : System) → Holds R sizes trees → false ≡ canonical R
+      checking-before a R k = sym (ap canonical (held-unique k (w .held .holds)) ∙ further ∙ rw (v, a))
+
+      -- it is in its place
+      pub checking-next : atMost compareGenerated (w .p) c ≡ true → Checking sizes trees at end (i + 1)
+      checking-next a =
+          record {
+            held = w .held;
+            p = c;
+            turn = omega arith;
+            place = held-next (w .held .holds) i at end h (w .place) e;
+            left-place = omega (arith, held-size (w .held .holds) i);
+            left-is = checking-part;
+            valid = inr v;
+            order = further ∙ rw (v, a);
+          }
 
   -- no component is left
-  pub checking-end : length sizes ≤ i → (S : System) → Holds S sizes trees → true ≡ canonical S
+  pub checking-end : length sizes ≤ i → (R : System) → Holds R sizes trees → true ≡ canonical R
   unfolding inOrder
-  checking-end h S k = sym (w .order S k ∙ of (w .rest) (w .points-are))
-    where
-      of : (l : System) → drop i sizes ≡ map points l → inOrder (w .p) l ≡ true
-      of [] e = refl
-      of (c ∷ l) e = absurd (omega (arith, ap length e, length-drop i sizes))
+  checking-end h R k =
+      sym
+      (ap canonical (held-unique k (w .held .holds))
+      ∙ w .order
+      ∙ ap (inOrder (w .p)) (drop-of-length-le S {i = i} (omega (arith, held-count (w .held .holds)))))

@@ -11,6 +11,7 @@ pub mod Readback
 pub mod Filling
 pub mod Growing
 pub mod Parts
+pub mod Checking
 pub mod Writing
 pub mod WrittenBack
 pub mod Calls

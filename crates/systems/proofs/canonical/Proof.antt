@@ -1,13 +1,17 @@
 use denote.Ref.{now}
-use mathlib.Core.Path.{_≡_, refl, sym, ap, _∙_}
-use Prim.Native.Nat.{_+_, _-_}
+use mathlib.Core.Path.{_≡_, refl, sym, _∙_}
+use mathlib.Core.Bool.{true}
+use mathlib.Core.List.{List, []}
+use Prim.Native.Nat.{ℕ, _+_, _-_, _≤_}
 use native.Mathlib.Omega.{arith}
 use borrow.Author.Needs.{needs}
-use lib.ListN.{length, take, drop, getD}
+use lib.ListN.{length, getD}
 use Rattle.lists.proofs.Tests.{not-of-true, not-of-false}
-use Rattle.reading.proofs.Checking.{Checking, Next, checking-start, checking-view, checking-neighbours, checking-next, checking-fails, checking-end}
-use Rattle.reading.proofs.canonical.Statement.{statement}
-use Rattle.reading.proofs.canonical.Tie as tie
+use Rattle.patterns.specs.Component.{Component, validComponent}
+use Rattle.systems.proofs.Checking.{Checking, checking-start, checking-within, checking-part, checking-held, checking-invalid, checking-pair, checking-before}
+use Rattle.systems.proofs.Checking.{checking-next, checking-end}
+use Rattle.systems.proofs.canonical.Statement.{statement}
+use Rattle.systems.proofs.canonical.Tie as tie
 
 abbrev Inv-loop : tie.InvT-loop
 Inv-loop sizes trees last₀ at₀ i₀ last at i = Checking sizes trees last at i
@@ -15,103 +19,112 @@ Inv-loop sizes trees last₀ at₀ i₀ last at i = Checking sizes trees last at
 abbrev μ-loop : tie.MeasureT-loop
 μ-loop sizes trees last₀ at₀ i₀ last at i = length sizes - i
 
+-- The places: the size of a component has been read; the component is valid.
+abbrev Sized : Type 0
+Sized = tie.After-shared-slice-known3 Inv-loop μ-loop
+
+abbrev Valid : Type 0
+Valid = tie.Else1 Inv-loop μ-loop
+
+abbrev turn : Sized → tie.At-loop Inv-loop μ-loop
+turn c = c .before .before
+
+abbrev sized : Valid → Sized
+sized c = c .before .before .before
+
+abbrev sizes : Sized → List ℕ
+sizes c = now ((turn c) .before .before .before .args .sizes)
+
+abbrev trees : Sized → List ℕ
+trees c = now ((turn c) .before .before .before .args .trees)
+
+-- where the component ends, and the component
+abbrev End : Sized → ℕ
+End c = (turn c) .loop .at + getD (sizes c) ((turn c) .loop .i) 0
+
+abbrev C : Sized → Component
+C c = getD ((turn c) .loop .inv .held .system) ((turn c) .loop .i) []
+
+within : (c : Sized) → ((turn c) .loop .last ≤ (turn c) .loop .at) × ((turn c) .loop .at ≤ End c) × (End c ≤ length (trees c))
+within c = checking-within ((turn c) .loop .inv) (omega arith) (End c) refl
+
+valid : (c : Valid) → validComponent (C (sized c)) ≡ true
+valid c =
+    let call = c .before .valid-component in
+    sym (call .ensures (C (sized c)) (checking-part ((turn (sized c)) .loop .inv) (omega arith) (End (sized c)) refl)) ∙ not-of-false (call .result) (c .if1 .left)
+
 loop-holds : tie.Need-loop-holds Inv-loop μ-loop
 loop-holds c = checking-start (c .before .before .pre)
 
-shared-slice-read-size : tie.Need-shared-slice-read-size Inv-loop μ-loop
-shared-slice-read-size c = search needs
-
-cast-size : tie.Need-cast-size Inv-loop μ-loop
-cast-size c = omega (arith, c .shared-slice-known3 .given (c .before .before .loop .i))
+cast-end : tie.Need-cast-end Inv-loop μ-loop
+cast-end c = omega (arith, c .shared-slice-known3 .given ((turn c) .loop .i))
 
 add-end : tie.Need-add-end Inv-loop μ-loop
-add-end c =
-    let l = c .before .before .loop in
-    let g = checking-view (l .inv) (omega arith) in
-    let n : Next (l .inv) (g .0) (g .1) = g .2 in
-    omega arith
+add-end c = omega (arith, within c)
 
-sub-in-place : tie.Need-sub-in-place Inv-loop μ-loop
-sub-in-place c =
-    let l = c .before .before .loop in
-    let g = checking-view (l .inv) (omega arith) in
-    let n : Next (l .inv) (g .0) (g .1) = g .2 in
-    omega arith
+sub-valid-component : tie.Need-sub-valid-component Inv-loop μ-loop
+sub-valid-component c = omega (arith, within c)
 
-part-in-place-start : tie.Need-part-in-place-start Inv-loop μ-loop
-part-in-place-start c =
-    let l = c .before .before .loop in
-    let g = checking-view (l .inv) (omega arith) in
-    let n : Next (l .inv) (g .0) (g .1) = g .2 in
-    omega arith
+part-valid-component-start : tie.Need-part-valid-component-start Inv-loop μ-loop
+part-valid-component-start c = omega (arith, within c)
 
-part-in-place-end : tie.Need-part-in-place-end Inv-loop μ-loop
-part-in-place-end c =
-    let l = c .before .before .loop in
-    let g = checking-view (l .inv) (omega arith) in
-    let n : Next (l .inv) (g .0) (g .1) = g .2 in
-    omega arith
+part-valid-component-end : tie.Need-part-valid-component-end Inv-loop μ-loop
+part-valid-component-end c = omega (arith, within c)
 
-sub-in-place-2 : tie.Need-sub-in-place-2 Inv-loop μ-loop
-sub-in-place-2 c =
-    let l = c .before .before .before .loop in
-    let g = checking-view (l .inv) (omega arith) in
-    let n : Next (l .inv) (g .0) (g .1) = g .2 in
-    omega arith
-
-part-in-place-start-2 : tie.Need-part-in-place-start-2 Inv-loop μ-loop
-part-in-place-start-2 c =
-    let l = c .before .before .before .loop in
-    let g = checking-view (l .inv) (omega arith) in
-    let n : Next (l .inv) (g .0) (g .1) = g .2 in
-    omega arith
-
-part-in-place-end-2 : tie.Need-part-in-place-end-2 Inv-loop μ-loop
-part-in-place-end-2 c =
-    let l = c .before .before .before .loop in
-    let g = checking-view (l .inv) (omega arith) in
-    let n : Next (l .inv) (g .0) (g .1) = g .2 in
-    omega arith
-
-in-place-requires : tie.Need-in-place-requires Inv-loop μ-loop
-in-place-requires c κs =
-    let l = c .before .before .before .before .loop in
-    let g = checking-view (l .inv) (omega arith) in
-    let n : Next (l .inv) (g .0) (g .1) = g .2 in
-    let a = c .before .before .before .before .before .before .before .args in
-    let e : l .at + getD (now (a .sizes)) (l .i) 0 - l .at ≡ getD (now (a .sizes)) (l .i) 0 = omega arith in
-    checking-neighbours (l .inv) n (omega arith) refl (ap (λ k. take k (drop (l .at) (now (a .trees)))) e)
+valid-component-requires : tie.Need-valid-component-requires Inv-loop μ-loop
+valid-component-requires c κs = checking-held ((turn (c .before)) .loop .inv) (omega arith) (End (c .before)) refl
 
 returns : tie.Need-returns Inv-loop μ-loop
 returns c =
-    let l = c .before .before .before .before .before .before .loop in
-    let a = c .before .before .before .before .before .before .before .before .before .args in
-    let g = checking-view (l .inv) (omega arith) in
-    let n : Next (l .inv) (g .0) (g .1) = g .2 in
-    let call = c .before .in-place in
-    let e : l .at + getD (now (a .sizes)) (l .i) 0 - l .at ≡ getD (now (a .sizes)) (l .i) 0 = omega arith in
-    let d = call .ensures (l .inv .p) (g .0) (n .left-is) (ap (λ k. take k (drop (l .at) (now (a .trees)))) e ∙ n .right-is) in
-    checking-fails (l .inv) n (omega arith) (sym d ∙ not-of-true (call .result) (c .if1 .taken))
+    let s : Sized = c .before .before .before in
+    let call = c .before .valid-component in
+    let inv = (turn s) .loop .inv in
+    checking-invalid inv (omega arith) (End s) refl
+    (sym (call .ensures (C s) (checking-part inv (omega arith) (End s) refl)) ∙ not-of-true (call .result) (c .if1 .taken))
 
-add-i : tie.Need-add-i Inv-loop μ-loop
-add-i c = search needs
+sub-follows : tie.Need-sub-follows Inv-loop μ-loop
+sub-follows c = omega (arith, within (sized c))
 
-loop-less : tie.Need-loop-less Inv-loop μ-loop
-loop-less c = search needs
+part-follows-start : tie.Need-part-follows-start Inv-loop μ-loop
+part-follows-start c = omega (arith, within (sized c))
+
+part-follows-end : tie.Need-part-follows-end Inv-loop μ-loop
+part-follows-end c = omega (arith, within (sized c))
+
+sub-follows-2 : tie.Need-sub-follows-2 Inv-loop μ-loop
+sub-follows-2 c = omega (arith, within (sized (c .before)))
+
+part-follows-start-2 : tie.Need-part-follows-start-2 Inv-loop μ-loop
+part-follows-start-2 c = omega (arith, within (sized (c .before)))
+
+part-follows-end-2 : tie.Need-part-follows-end-2 Inv-loop μ-loop
+part-follows-end-2 c = omega (arith, within (sized (c .before)))
+
+follows-requires : tie.Need-follows-requires Inv-loop μ-loop
+follows-requires c κs =
+    let v : Valid = c .before .before in
+    checking-pair ((turn (sized v)) .loop .inv) (omega arith) (End (sized v)) refl (valid v)
+
+returns-2 : tie.Need-returns-2 Inv-loop μ-loop
+returns-2 c =
+    let v : Valid = c .before .before .before .before in
+    let inv = (turn (sized v)) .loop .inv in
+    let call = c .before .follows in
+    let part = checking-part inv (omega arith) (End (sized v)) refl in
+    checking-before inv (omega arith) (End (sized v)) refl (valid v)
+    (sym (call .ensures (inv .p) (C (sized v)) (inv .left-is) part) ∙ not-of-true (call .result) (c .if2 .taken))
 
 loop-again : tie.Need-loop-again Inv-loop μ-loop
 loop-again c =
-    let l = c .before .before .before .before .before .before .loop in
-    let a = c .before .before .before .before .before .before .before .before .before .args in
-    let g = checking-view (l .inv) (omega arith) in
-    let n : Next (l .inv) (g .0) (g .1) = g .2 in
-    let call = c .before .in-place in
-    let e : l .at + getD (now (a .sizes)) (l .i) 0 - l .at ≡ getD (now (a .sizes)) (l .i) 0 = omega arith in
-    let d = call .ensures (l .inv .p) (g .0) (n .left-is) (ap (λ k. take k (drop (l .at) (now (a .trees)))) e ∙ n .right-is) in
-    checking-next (l .inv) n (omega arith) (sym d ∙ not-of-false (call .result) (c .if1 .left))
+    let v : Valid = c .before .before .before .before in
+    let inv = (turn (sized v)) .loop .inv in
+    let call = c .before .follows in
+    let part = checking-part inv (omega arith) (End (sized v)) refl in
+    checking-next inv (omega arith) (End (sized v)) refl (valid v)
+    (sym (call .ensures (inv .p) (C (sized v)) (inv .left-is) part) ∙ not-of-false (call .result) (c .if2 .left))
 
-returns-2 : tie.Need-returns-2 Inv-loop μ-loop
-returns-2 c = checking-end (c .before .loop .inv) (omega arith)
+returns-3 : tie.Need-returns-3 Inv-loop μ-loop
+returns-3 c = checking-end (c .before .loop .inv) (omega arith)
 
 pub canonical-spec : {M : Type 1} → statement M
 canonical-spec =
@@ -120,18 +133,23 @@ canonical-spec =
     Inv-loop
     μ-loop
     loop-holds
-    shared-slice-read-size
-    cast-size
+    (λ c. search needs)
+    cast-end
     add-end
-    sub-in-place
-    part-in-place-start
-    part-in-place-end
-    sub-in-place-2
-    part-in-place-start-2
-    part-in-place-end-2
-    in-place-requires
+    sub-valid-component
+    part-valid-component-start
+    part-valid-component-end
+    valid-component-requires
     returns
-    add-i
-    loop-less
+    sub-follows
+    part-follows-start
+    part-follows-end
+    sub-follows-2
+    part-follows-start-2
+    part-follows-end-2
+    follows-requires
+    returns-2
+    (λ c. search needs)
+    (λ c. search needs)
     loop-again
-    returns-2)
+    returns-3)
