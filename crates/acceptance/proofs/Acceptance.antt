@@ -23,12 +23,13 @@ use Rattle.reading.proofs.Whole.{refused-into}
 use Rattle.systems.proofs.Parts.{held-count, held-points}
 
 -- the last check
-checked : System → Result System
+unfoldable checked : System → Result System
+unfolding canonical
 checked S =
     let tested = canonical S in
     cond tested (done S) (fault NotCanonical)
 
--- a code that was read is the shape, and then the last check
+-- The definition of reading is the shape, and then the last check.
 finished-checked : (S : System) (l : List ℕ) → finished S l ≡ andThen (ended S l) checked
 unfolding finished checked
 finished-checked S [] = refl
@@ -59,7 +60,8 @@ unfolding readSystem shape
 read-shape [] = refl
 read-shape (n ∷ s) = ap (cond (ltb 200 n) (fault Count)) (body-shape n s) ∙ sym (then-cond (ltb 200 n) (fault Count) (shapeBody n s) checked)
 
-pub accepted-shape : (b : List ℕ) → accepted b ≡ andThen (codeShape b) checked
+-- a code is accepted where its shape is in order and the system is canonical
+accepted-shape : (b : List ℕ) → accepted b ≡ andThen (codeShape b) checked
 unfolding accepted codeShape
 accepted-shape b = same-results (cut b) readSystem _ read-shape ∙ sym (then-then (cut b) shape checked)
 
@@ -75,51 +77,50 @@ told (done S) r m n sizes trees a e =
     (S, refl, sym u, sym v, rw (u, v) (a .held S refl))
 told (fault c) r m n sizes trees a e = let q = sym e ∙ a .reply in clash cc
 
-module _ (b : List ℕ) (r : Accepted) (sizes trees : List ℕ) (a : AcceptedInto (codeShape b) r sizes trees) where
+module _ (code : List ℕ) (r : Accepted) (sizes trees : List ℕ) (a : AcceptedInto (codeShape code) r sizes trees) where
   -- refused for its shape
-  pub shape-refused : (c : Refusal) → r ≡ NotAccepted c → AcceptedInto (accepted b) r sizes trees
-  shape-refused c e = rw e (refused-into (accepted b) c sizes trees (accepted-shape b ∙ ap (λ o. andThen o checked) (of (codeShape b) (sym e ∙ a .reply))))
+  pub shape-refused : (c : Refusal) → r ≡ NotAccepted c → AcceptedInto (accepted code) r sizes trees
+  shape-refused c e =
+      rw e (refused-into (accepted code) c sizes trees (accepted-shape code ∙ ap (λ o. andThen o checked) (of (codeShape code) (sym e ∙ a .reply))))
     where
       of : (o : Result System) → NotAccepted c ≡ acceptance o → o ≡ fault c
       of (done S) q = clash cc
       of (fault d) q = let z : c ≡ d = cc in ap fault (sym z)
 
   module _ (m n : ℕ) (e : r ≡ Held m n) where
+    system-told : Told (codeShape code) m n sizes trees
+    system-told = told (codeShape code) r m n sizes trees a e
+
     -- the memory holds a system, in its first places
     pub shape-held : HeldSystem (take m sizes) (take n trees)
     shape-held =
-        let t = told (codeShape b) r m n sizes trees a e in
-        let g = good-done (λ S. (each nonempty S ≡ true) × (weight S ≤ 200)) (codeShape b) (t .0) (t .1) (code-sound b) in
+        let t = system-told in
+        let g = good-done (λ S. (each nonempty S ≡ true) × (weight S ≤ 200)) (codeShape code) (t .0) (t .1) (code-sound code) in
         record { system = t .0; holds = t .4; each-nonempty = g .0; small = g .1 }
 
     pub shape-within : (m ≤ length sizes) × (n ≤ length trees)
     shape-within =
-        let t = told (codeShape b) r m n sizes trees a e in
-        let h = t .4 in (
-          omega (arith, ap length (h .points-are), length-take m sizes, length-points (t .0), t .2),
-          omega (arith, ap length (h .flat-is), length-take n trees, length-gather-flat (t .0), t .3),
+        let t = system-told in (
+          omega (arith, held-count (t .4), length-take m sizes, t .2),
+          omega (arith, held-points (t .4), length-take n trees, t .3),
         )
-      where
-        length-points : (S : System) → length (map points S) ≡ length S
-        length-points [] = refl
-        length-points (c ∷ S) = ap suc (length-points S)
 
     module _ (b : Bool) (f : (S : System) → Holds S (take m sizes) (take n trees) → b ≡ canonical S) where
-      -- not canonical
-      pub shape-unordered : b ≡ false → AcceptedInto (accepted b) (NotAccepted NotCanonical) sizes trees
+      tested : accepted code ≡ cond b (done (system-told .0)) (fault NotCanonical)
       unfolding checked
-      shape-unordered q =
-          let t = told (codeShape b) r m n sizes trees a e in
-          let k : canonical (t .0) ≡ false = sym (f (t .0) (t .4)) ∙ q in
-          refused-into (accepted b) NotCanonical sizes trees (accepted-shape b ∙ ap (λ o. andThen o checked) (t .1) ∙ ap (λ d. cond d (done (t .0)) (fault NotCanonical)) k)
+      tested =
+          let t = system-told in
+          accepted-shape code ∙ ap (λ o. andThen o checked) (t .1) ∙ ap (λ d. cond d (done (t .0)) (fault NotCanonical)) (sym (f (t .0) (t .4)))
+
+      -- not canonical
+      pub shape-unordered : b ≡ false → AcceptedInto (accepted code) (NotAccepted NotCanonical) sizes trees
+      shape-unordered q = refused-into (accepted code) NotCanonical sizes trees (tested ∙ rw q)
 
       -- canonical
-      pub shape-accepted : b ≡ true → AcceptedInto (accepted b) (Held m n) sizes trees
-      unfolding checked
+      pub shape-accepted : b ≡ true → AcceptedInto (accepted code) (Held m n) sizes trees
       shape-accepted q =
-          let t = told (codeShape b) r m n sizes trees a e in
-          let k : canonical (t .0) ≡ true = sym (f (t .0) (t .4)) ∙ q in
-          let o : readSystem xs ≡ done (t .0) = accepted-shape b ∙ ap (λ o. andThen o checked) (t .1) ∙ ap (λ d. cond d (done (t .0)) (fault NotCanonical)) k in
+          let t = system-told in
+          let o : accepted code ≡ done (t .0) = tested ∙ rw q in
           record {
             reply = ap₂ Held (sym (t .2)) (sym (t .3)) ∙ ap acceptance (sym o);
             held = λ S z. a .held S (t .1 ∙ sym o ∙ z);

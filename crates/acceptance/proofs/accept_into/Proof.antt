@@ -1,143 +1,99 @@
-use Prim.Native.Nat.{_-_}
+use denote.Ref.{now}
+use mathlib.Core.List.{List}
+use Prim.Native.Nat.{ℕ, _-_, _≤_}
 use native.Mathlib.Omega.{arith}
 use borrow.Author.Needs.{needs}
-use lib.ListN.{length-take}
+use lib.ListN.{length, take, length-take}
 use Rattle.lists.proofs.Tests.{not-of-true, not-of-false}
-use Rattle.reading.proofs.Accepting.{shape-refused, shape-held, shape-within, shape-unordered, shape-accepted}
-use Rattle.reading.proofs.accept_numbers.Statement.{statement}
-use Rattle.reading.proofs.accept_numbers.Tie as tie
+use Rattle.memory.specs.Memory.{HeldSystem}
+use Rattle.acceptance.proofs.Acceptance.{shape-refused, shape-held, shape-within, shape-unordered, shape-accepted}
+use Rattle.acceptance.proofs.accept_into.Statement.{statement}
+use Rattle.acceptance.proofs.accept_into.Tie as tie
 
-read-system-requires : tie.Need-read-system-requires
-read-system-requires c κs = search needs
+-- The places: the code has been read, and it has a shape.
+abbrev call : tie.After-known-told → tie.After-read-code
+call c = c .before .before .before .before .before .before .before
 
-enum-known-shape : tie.Need-enum-known-shape
-enum-known-shape c = search needs
+abbrev code : tie.After-read-code → List ℕ
+code c = now (c .before .before .before .before .before .before .args .code)
 
-enum-told : tie.Need-enum-told
-enum-told c = search needs
+abbrev sizes : tie.After-read-code → List ℕ
+sizes c = c .read-code .last .1 .0
 
-same-length : tie.Need-same-length
-same-length c = search needs
+abbrev trees : tie.After-read-code → List ℕ
+trees c = c .read-code .last .1 .1 .0
 
-same-length-2 : tie.Need-same-length-2
-same-length-2 c = search needs
+abbrev M : tie.After-known-told → ℕ
+M c = c .before .shape .given .0 .0
+
+abbrev N : tie.After-known-told → ℕ
+N c = c .before .shape .given .0 .1 .0
+
+within : (c : tie.After-known-told) → (M c ≤ length (sizes (call c))) × (N c ≤ length (trees (call c)))
+within c =
+    let k = call c in
+    shape-within (code k) (k .read-code .result) (sizes k) (trees k) (k .read-code .ensures) (M c) (N c) (c .before .shape .given .1)
+
+held : (c : tie.After-known-told) → HeldSystem (take (M c) (sizes (call c))) (take (N c) (trees (call c)))
+held c =
+    let k = call c in
+    shape-held (code k) (k .read-code .result) (sizes k) (trees k) (k .read-code .ensures) (M c) (N c) (c .before .shape .given .1)
 
 returns : tie.Need-returns
 returns c =
-    let call = c .before .before .before .before .before .before .read-system in
+    let k : tie.After-read-code = c .before .before .before .before .before .before in
     let refusal = c .enum-told .given in
-    λ xs e n. shape-refused xs (call .result) (call .last .1 .1 .0) (call .last .1 .1 .1 .0) (call .ensures xs e n) (refusal .0 .0) (refusal .1)
+    shape-refused (code k) (k .read-code .result) (sizes k) (trees k) (k .read-code .ensures) (refusal .0 .0) (refusal .1)
 
 slice-reshare-prefix-canonical : tie.Need-slice-reshare-prefix-canonical
-slice-reshare-prefix-canonical c =
-    let call = c .before .before .before .before .before .before .before .read-system in
-    let h = c .before .before .before .before .before .before .before .before .before .before .before .before .before .pre in
-    let shape = c .before .shape .given in
-    let told = call .ensures (h .all) (h .first) (h .counted) in
-    (shape-within (h .all) (call .result) (call .last .1 .1 .0) (call .last .1 .1 .1 .0) told (shape .0 .0) (shape .0 .1 .0) (shape .1)) .0
+slice-reshare-prefix-canonical c = (within c) .0
 
 slice-aggregate-canonical : tie.Need-slice-aggregate-canonical
-slice-aggregate-canonical c =
-    let call = c .before .before .before .before .before .before .before .before .read-system in
-    let h = c .before .before .before .before .before .before .before .before .before .before .before .before .before .before .pre in
-    let shape = c .before .before .shape .given in
-    let told = call .ensures (h .all) (h .first) (h .counted) in
-    let w = shape-within (h .all) (call .result) (call .last .1 .1 .0) (call .last .1 .1 .1 .0) told (shape .0 .0) (shape .0 .1 .0) (shape .1) in
-    rw length-take (omega arith)
+slice-aggregate-canonical c = let w = within (c .before) in rw length-take (omega arith)
 
 slice-reshare-prefix-canonical-2 : tie.Need-slice-reshare-prefix-canonical-2
-slice-reshare-prefix-canonical-2 c =
-    let call = c .before .before .before .before .before .before .before .before .read-system in
-    let h = c .before .before .before .before .before .before .before .before .before .before .before .before .before .before .pre in
-    let shape = c .before .before .shape .given in
-    let told = call .ensures (h .all) (h .first) (h .counted) in
-    (shape-within (h .all) (call .result) (call .last .1 .1 .0) (call .last .1 .1 .1 .0) told (shape .0 .0) (shape .0 .1 .0) (shape .1)) .1
+slice-reshare-prefix-canonical-2 c = (within (c .before)) .1
 
 slice-aggregate-canonical-2 : tie.Need-slice-aggregate-canonical-2
-slice-aggregate-canonical-2 c =
-    let call = c .before .before .before .before .before .before .before .before .before .read-system in
-    let h = c .before .before .before .before .before .before .before .before .before .before .before .before .before .before .before .pre in
-    let shape = c .before .before .before .shape .given in
-    let told = call .ensures (h .all) (h .first) (h .counted) in
-    let w = shape-within (h .all) (call .result) (call .last .1 .1 .0) (call .last .1 .1 .1 .0) told (shape .0 .0) (shape .0 .1 .0) (shape .1) in
-    rw length-take (omega arith)
+slice-aggregate-canonical-2 c = let w = within (c .before .before) in rw length-take (omega arith)
 
 canonical-requires : tie.Need-canonical-requires
-canonical-requires c κs =
-    let call = c .before .before .before .before .before .before .before .before .before .read-system in
-    let h = c .before .before .before .before .before .before .before .before .before .before .before .before .before .before .before .pre in
-    let shape = c .before .before .before .shape .given in
-    let told = call .ensures (h .all) (h .first) (h .counted) in
-    shape-held (h .all) (call .result) (call .last .1 .1 .0) (call .last .1 .1 .1 .0) told (shape .0 .0) (shape .0 .1 .0) (shape .1)
-
-same-length-3 : tie.Need-same-length-3
-same-length-3 c = search needs
-
-same-length-4 : tie.Need-same-length-4
-same-length-4 c = search needs
+canonical-requires c κs = held (c .before .before)
 
 returns-2 : tie.Need-returns-2
 returns-2 c =
-    let call = c .before .before .before .before .before .before .before .before .before .before .before .read-system in
-    let shape = c .before .before .before .before .before .shape .given in
+    let told : tie.After-known-told = c .before .before .before .before in
+    let k = call told in
     let check = c .before .canonical in
-    λ xs e n.
-    shape-unordered
-    xs
-    (call .result)
-    (call .last .1 .1 .0)
-    (call .last .1 .1 .1 .0)
-    (call .ensures xs e n)
-    (shape .0 .0)
-    (shape .0 .1 .0)
-    (shape .1)
-    (check .result)
-    (check .ensures)
-    (not-of-true (check .result) (c .if1 .taken))
-
-same-length-5 : tie.Need-same-length-5
-same-length-5 c = search needs
-
-same-length-6 : tie.Need-same-length-6
-same-length-6 c = search needs
+    shape-unordered (code k) (k .read-code .result) (sizes k) (trees k) (k .read-code .ensures) (M told) (N told) (told .before .shape .given .1) (check .result)
+    (check .ensures) (not-of-true (check .result) (c .if1 .taken))
 
 returns-3 : tie.Need-returns-3
 returns-3 c =
-    let call = c .before .before .before .before .before .before .before .before .before .before .before .read-system in
-    let shape = c .before .before .before .before .before .shape .given in
+    let told : tie.After-known-told = c .before .before .before .before in
+    let k = call told in
     let check = c .before .canonical in
-    λ xs e n.
-    shape-accepted
-    xs
-    (call .result)
-    (call .last .1 .1 .0)
-    (call .last .1 .1 .1 .0)
-    (call .ensures xs e n)
-    (shape .0 .0)
-    (shape .0 .1 .0)
-    (shape .1)
-    (check .result)
-    (check .ensures)
-    (not-of-false (check .result) (c .if1 .left))
+    shape-accepted (code k) (k .read-code .result) (sizes k) (trees k) (k .read-code .ensures) (M told) (N told) (told .before .shape .given .1) (check .result)
+    (check .ensures) (not-of-false (check .result) (c .if1 .left))
 
-pub accept-numbers-spec : {M : Type 1} → statement M
-accept-numbers-spec =
+pub accept-into-spec : {M : Type 1} → statement M
+accept-into-spec =
     tie.close
     (tie.spec
-    read-system-requires
-    enum-known-shape
-    enum-told
-    same-length
-    same-length-2
+    (λ c κs. search needs)
+    (λ c. search needs)
+    (λ c. search needs)
+    (λ c. search needs)
+    (λ c. search needs)
     returns
     slice-reshare-prefix-canonical
     slice-aggregate-canonical
     slice-reshare-prefix-canonical-2
     slice-aggregate-canonical-2
     canonical-requires
-    same-length-3
-    same-length-4
+    (λ c. search needs)
+    (λ c. search needs)
     returns-2
-    same-length-5
-    same-length-6
+    (λ c. search needs)
+    (λ c. search needs)
     returns-3)

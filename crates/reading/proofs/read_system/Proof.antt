@@ -1,13 +1,17 @@
 use denote.Ref.{now}
 use mathlib.Core.List.{List}
-use Prim.Native.Nat.{ℕ, _-_}
+use Prim.Native.Nat.{ℕ, _-_, _<_}
 use native.Mathlib.Omega.{arith}
 use borrow.Author.Needs.{needs}
 use Rattle.patterns.specs.declared.Refusal.the-variants.{Count, Truncated, Sizes, Trailing}
-use Rattle.reading.specs.Shape.{shape}
+use Rattle.reading.specs.Shape.{shape, keptNumbers}
 use Rattle.reading.proofs.Whole.{whole-empty, whole-large, whole-ended, whole-many, whole-refused, whole-trailing, whole-done, refused-into}
 use Rattle.reading.proofs.read_system.Statement.{statement}
 use Rattle.reading.proofs.read_system.Tie as tie
+
+-- as many numbers are kept after n and m as a code of 200 points has there, and one more
+enough : 400 < keptNumbers - 2
+enough = omega arith
 
 -- The numbers, by the place after the slices; and that place from where n and m are in order.
 abbrev S : tie.After-slice-known2 → List ℕ
@@ -17,17 +21,17 @@ abbrev start : tie.Else4 → tie.After-slice-known2
 start c = c .before .before .before .before .before .before
 
 returns : tie.Need-returns
-returns c = λ xs e n. refused-into (shape xs) Truncated _ _ (whole-empty 401 (omega arith) (S (c .before)) xs e (omega arith))
+returns c = λ xs e n. refused-into (shape xs) Truncated _ _ (whole-empty (keptNumbers - 2) enough (S (c .before)) xs e (omega arith))
 
 cast-n : tie.Need-cast-n
 cast-n c = omega (arith, c .shared-slice-known2 .given 0)
 
 returns-2 : tie.Need-returns-2
-returns-2 c = λ xs e n. refused-into (shape xs) Count _ _ (whole-large 401 (omega arith) (S (c .before .before .before)) xs e (omega arith) (omega arith))
+returns-2 c = λ xs e n. refused-into (shape xs) Count _ _ (whole-large (keptNumbers - 2) enough (S (c .before .before .before)) xs e (omega arith) (omega arith))
 
 returns-3 : tie.Need-returns-3
 returns-3 c =
-    λ xs e n. refused-into (shape xs) Truncated _ _ (whole-ended 401 (omega arith) (S (c .before .before .before .before)) xs e (omega arith) (omega arith))
+    λ xs e n. refused-into (shape xs) Truncated _ _ (whole-ended (keptNumbers - 2) enough (S (c .before .before .before .before)) xs e (omega arith) (omega arith))
 
 cast-m : tie.Need-cast-m
 cast-m c = omega (arith, c .shared-slice-known3 .given 1)
@@ -36,7 +40,7 @@ returns-4 : tie.Need-returns-4
 returns-4 c =
     λ xs e n.
     refused-into (shape xs) Sizes _ _
-    (whole-many 401 (omega arith) (S (c .before .before .before .before .before .before)) xs e (omega arith) (omega arith) (omega arith))
+    (whole-many (keptNumbers - 2) enough (S (c .before .before .before .before .before .before)) xs e (omega arith) (omega arith) (omega arith))
 
 -- the call, and the numbers that it read
 abbrev call : tie.After-slice-known4 → tie.After-read-components
@@ -52,7 +56,7 @@ returns-5 c =
     let next = c .before .before .next .given in
     λ xs e n.
     refused-into (shape xs) Trailing _ _
-    (whole-trailing 401 (omega arith) (numbers k) _ _ (read .result) (read .ensures) (omega arith) (omega arith) (omega arith) xs e (next .0 .0) (next .1) (omega arith))
+    (whole-trailing (keptNumbers - 2) enough (numbers k) _ _ (read .result) (read .ensures) (omega arith) (omega arith) (omega arith) xs e (next .0 .0) (next .1) (omega arith))
 
 returns-6 : tie.Need-returns-6
 returns-6 c =
@@ -61,7 +65,7 @@ returns-6 c =
     let cause = c .before .cause .given in
     λ xs e n.
     refused-into (shape xs) (cause .0 .0) _ _
-    (whole-refused 401 (omega arith) (numbers k) _ _ (read .result) (read .ensures) (omega arith) (omega arith) (omega arith) xs e (cause .0 .0) (cause .1))
+    (whole-refused (keptNumbers - 2) enough (numbers k) _ _ (read .result) (read .ensures) (omega arith) (omega arith) (omega arith) xs e (cause .0 .0) (cause .1))
 
 returns-7 : tie.Need-returns-7
 returns-7 c =
@@ -69,7 +73,7 @@ returns-7 c =
     let read = (call k) .read-components in
     let next = c .before .before .next .given in
     λ xs e n.
-    whole-done 401 (omega arith) (numbers k) _ _ (read .result) (read .ensures) (omega arith) (omega arith) (omega arith) xs e (next .0 .0) (next .1) (omega arith)
+    whole-done (keptNumbers - 2) enough (numbers k) _ _ (read .result) (read .ensures) (omega arith) (omega arith) (omega arith) xs e (next .0 .0) (next .1) (omega arith)
 
 pub read-system-spec : {M : Type 1} → statement M
 read-system-spec =
