@@ -17,10 +17,10 @@ use Rattle.memory.specs.Memory.{Holds, HeldSystem}
 use Rattle.reading.specs.declared.Accepted.{Accepted}
 use Rattle.reading.specs.declared.Accepted.the-variants.{System as Held, Refused as NotAccepted}
 use Rattle.reading.specs.Shape.{ended, shapeBody, shape, codeShape, acceptance, AcceptedInto}
-use Rattle.tree_reading.proofs.Results.{good-done}
+use Rattle.form_theory.proofs.Results.{good-done}
 use Rattle.reading.proofs.Sound.{code-sound}
 use Rattle.reading.proofs.Whole.{refused-into}
-use Rattle.systems.proofs.Parts.{held-count, held-points}
+use Rattle.memory.proofs.Parts.{held-count, held-points}
 
 -- the last check
 unfoldable checked : System → Result System

@@ -10,7 +10,7 @@ use mir.Val.{SFits, toZ, ofZ}
 use Rattle.patterns.specs.Reading.{Result, done, fault}
 use Rattle.patterns.specs.Replies.{Answer, length-is, refused}
 use Rattle.patterns.specs.Entry.{answer, componentOf}
-use Rattle.systems.proofs.Bounds.{below-at}
+use Rattle.form_theory.proofs.Bounds.{below-at}
 use Rattle.patterns.specs.declared.reply.Stretch.{Stretch}
 use Rattle.patterns.specs.declared.reply.Stretch.the-variants.{Part}
 use Rattle.patterns.specs.Replies.{PartAnswer, part-is, part-refused, partAnswer}

@@ -17,10 +17,10 @@ use Rattle.patterns.proofs.Trees.{length-flat}
 use Rattle.memory.specs.Memory.{Held}
 use Rattle.memory.specs.Memory.{Holds}
 use Rattle.memory.specs.Memory.{HeldSystem}
-use Rattle.systems.proofs.Numbers.{bytes-length}
-use Rattle.systems.proofs.Readback.{components-points, length-components}
-use Rattle.systems.proofs.Parts.{part-fits, held-count, held-points, held-fits, held-part, held-next}
-use Rattle.systems.proofs.WrittenBack.{componentBytes, component-ends}
+use Rattle.form_theory.proofs.Numbers.{bytes-length}
+use Rattle.form_theory.proofs.Readback.{components-points, length-components}
+use Rattle.memory.proofs.Parts.{part-fits, held-count, held-points, held-fits, held-part, held-next}
+use Rattle.form_theory.proofs.WrittenBack.{componentBytes, component-ends}
 use Rattle.patterns.specs.Replies.{part-is, part-refused}
 use Rattle.patterns.specs.Entry.{partAnswered, componentIn}
 

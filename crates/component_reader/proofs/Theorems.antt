@@ -12,7 +12,7 @@ use Rattle.patterns.specs.System.{System, weight, canonical}
 use Rattle.patterns.specs.Written.{componentNumbers, bytes, written, startOf}
 use Rattle.patterns.specs.Reading.{done, fault}
 use Rattle.patterns.specs.Entry.{componentOf}
-use Rattle.systems.proofs.WrittenBack.{written-back, written-bytes}
+use Rattle.form_theory.proofs.WrittenBack.{written-back, written-bytes}
 use Rattle.patterns.specs.Entry.{Shown}
 use Rattle.component_reader.proofs.Showing.{Stands, component-shown}
 

@@ -7,7 +7,7 @@ use native.Mathlib.Omega.{arith}
 use lib.ListN.{length, take, getD, length-append, length-take}
 use lib.Seq.{take-suc, take-all}
 use Rattle.patterns.specs.Written.{writeNumber, bytes}
-use Rattle.systems.proofs.Numbers.{bytes-append, bytes-length}
+use Rattle.form_theory.proofs.Numbers.{bytes-append, bytes-length}
 
 -- the first i + 1 numbers take as many bytes as the first i and one number more
 pub widths-next : (s : List ℕ) (i : ℕ) → i < length s → length (bytes (take (i + 1) s)) ≡ length (bytes (take i s)) + length (writeNumber (getD s i 0))

@@ -15,9 +15,9 @@ use Rattle.reading.specs.declared.Accepted.the-variants.{System as Held, Refuse
 use Rattle.memory.specs.Memory.{Holds}
 use Rattle.memory.specs.Memory.{HeldSystem}
 use Rattle.reading.specs.Shape.{acceptance, AcceptedInto}
-use Rattle.tree_reading.proofs.Results.{Good, good-then, good-weaken, good-done}
-use Rattle.systems.proofs.Readback.{system-good, canonical-nonempty}
-use Rattle.systems.proofs.Parts.{held-count, held-points}
+use Rattle.form_theory.proofs.Results.{Good, good-then, good-weaken, good-done}
+use Rattle.form_theory.proofs.Readback.{system-good, canonical-nonempty}
+use Rattle.memory.proofs.Parts.{held-count, held-points}
 
 anything-good : {A : Type 0} (r : Result A) → Good (λ x. Unit {0}) r
 anything-good (done x) = tt

@@ -18,7 +18,7 @@ use Rattle.patterns.specs.Entry.{gives, Replied, checkedTable, codeOfMap, mapOf
 use Rattle.memory.specs.Memory.{Holds}
 use Rattle.memory.specs.Memory.{HeldSystem}
 use Rattle.systems.specs.Held.{Wrote}
-use Rattle.systems.proofs.Parts.{length-numbers, held-points}
+use Rattle.memory.proofs.Parts.{length-numbers, held-points}
 use Rattle.maps.specs.Images.{HeldMap}
 use Rattle.maps.specs.Marks.{MarksAsked, Marked}
 use Rattle.maps.specs.Systems.{SystemAsked, SystemWritten}

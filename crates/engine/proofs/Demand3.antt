@@ -13,8 +13,8 @@ use Rattle.patterns.specs.Table.{systemOfTable}
 use Rattle.patterns.specs.Reading.{done}
 use Rattle.patterns.specs.Entry.{checkedTable, codeOfMap}
 use Rattle.patterns.specs.Calls.{Call, Calls, fresh, Enumeration}
-use Rattle.systems.proofs.Calls.{enumeration, calls-exist}
-use Rattle.systems.proofs.WrittenBack.{written-equal}
+use Rattle.form_theory.proofs.Calls.{enumeration, calls-exist}
+use Rattle.form_theory.proofs.WrittenBack.{written-equal}
 use Rattle.maps.proofs.MapOf.{length-mapOf, mapOf-table}
 use Rattle.maps.proofs.Theorems.{table-canonical, table-weight, system-of-map, renaming-system, system-same-isomorphic}
 use Rattle.patterns.specs.Calls.{Map, codeOf, Isomorphic}

@@ -26,7 +26,7 @@ use Rattle.patterns.specs.Isomorphism.{Isomorphism}
 use Rattle.patterns.specs.Reading.{done, fault}
 use Rattle.patterns.specs.Replies.{Answer, lacking, refused, numberOf}
 use Rattle.patterns.specs.Entry.{gives, lacks, fails, checkedTable, IsomorphismReplied, first-refused, second-refused, found, lengths-differ, not-found}
-use Rattle.systems.proofs.WrittenBack.{written-equal}
+use Rattle.form_theory.proofs.WrittenBack.{written-equal}
 use Rattle.maps.proofs.MapOf.{length-mapOf, mapOf-table}
 use Rattle.lists.proofs.Gathering.{perm-nodup}
 use Rattle.maps.proofs.Isomorphisms.{table-below, isomorphism-perm, isomorphism-below, isomorphism-through}

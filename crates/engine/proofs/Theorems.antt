@@ -19,8 +19,8 @@ use Rattle.patterns.specs.Isomorphism.{Isomorphism}
 use Rattle.patterns.specs.Reading.{Result, done, fault, accepted}
 use Rattle.patterns.specs.Replies.{Answer, length-is, lacking, refused}
 use Rattle.patterns.specs.Entry.{Outcome, gives, ends, lacks, fails, outcome, answered, Replied, checkedTable, codeOfMap, mapOfCode, IsomorphismFound, IsomorphismReplied, first-refused, second-refused, found, lengths-differ, not-found}
-use Rattle.systems.proofs.Bounds.{allBelow}
-use Rattle.systems.proofs.WrittenBack.{accepted-is, written-equal}
+use Rattle.form_theory.proofs.Bounds.{allBelow}
+use Rattle.form_theory.proofs.WrittenBack.{accepted-is, written-equal}
 use Rattle.maps.proofs.MapOf.{length-mapOf, mapOf-table}
 use Rattle.maps.proofs.Theorems.{table-canonical, table-weight, system-of-map, renaming-system, system-same-isomorphic}
 use Rattle.engine.specs.Tables.{Table}

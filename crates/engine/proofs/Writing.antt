@@ -22,12 +22,12 @@ use Rattle.memory.specs.Memory.{HeldSystem}
 use Rattle.systems.specs.declared.Stepped.{Stepped}
 use Rattle.systems.specs.declared.Stepped.the-variants.{Next, Last}
 use Rattle.systems.specs.Held.{Wrote, HeldWritable, HeldStep, SteppedTo}
-use Rattle.systems.specs.Step.{step}
-use Rattle.systems.proofs.Readback.{canonical-nonempty, components-points}
-use Rattle.systems.proofs.Parts.{held-count, held-points, held-unique}
-use Rattle.systems.proofs.Codes.{codes-sound}
-use Rattle.systems.proofs.Firsts.{codes-first}
-use Rattle.systems.proofs.Step.{step-is, step-greater}
+use Rattle.system_theory.specs.Step.{step}
+use Rattle.form_theory.proofs.Readback.{canonical-nonempty, components-points}
+use Rattle.memory.proofs.Parts.{held-count, held-points, held-unique}
+use Rattle.system_theory.proofs.Codes.{codes-sound}
+use Rattle.system_theory.proofs.Firsts.{codes-first}
+use Rattle.system_theory.proofs.Step.{step-is, step-keeps}
 use Rattle.engine.specs.Memory.{HeldNext}
 use Rattle.engine.proofs.Accepting.{Taken, taken-count}
 
@@ -120,7 +120,7 @@ module _ {sizes : List ℕ} {m : ℕ} {numbers : List ℕ} (h : HeldNext sizes m
       pub next-held : HeldSystem (take k sizes′) numbers′
       next-held =
           let t = follower (h .system) (h .holds) in
-          let g = step-greater (h .system) (t .0) (h .canonical-is) (t .1) in
+          let g = step-keeps (h .system) (t .0) (h .canonical-is) (t .1) in
           canonical-held (t .2) (g .0) (omega (arith, g .1, held-points (h .holds), h .small))
 
       pub next-within : k ≤ length sizes′

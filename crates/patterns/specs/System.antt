@@ -73,6 +73,13 @@ unfoldable pub codes : ℕ → List System
 unfolding systems sizeLists
 codes n = gather (systems []) (sizeLists n 1 n)
 
+-- document 01, "Order of the whole list": by the size lists, then component by component in generation order
+unfoldable pub compareCodes : System → System → Ordering
+unfolding compareGenerated
+compareCodes S R =
+    let components = lex compareGenerated S R in
+    then (lex compare (map points S) (map points R)) components
+
 -- tells equal systems from different ones
 unfoldable pub compareSystem : System → System → Ordering
 unfolding compareComponent

@@ -27,8 +27,8 @@ use Rattle.tree_reading.specs.declared.Read.{Read}
 use Rattle.tree_reading.specs.declared.Read.the-variants.{Past, Refused}
 use Rattle.tree_reading.specs.Walking.{walkedAll, readComponent}
 use Rattle.reading.specs.Shape.{MemoryRoom, ReadInto}
-use Rattle.tree_reading.proofs.Results.{Good, good-weaken, good-done, or-false, mapped-none, mapped-more}
-use Rattle.tree_reading.proofs.Readback.{TreesOf, trees-good}
+use Rattle.form_theory.proofs.Results.{Good, good-weaken, good-done, or-false, mapped-none, mapped-more}
+use Rattle.form_theory.proofs.ReadFrom.{TreesOf, trees-good}
 use Rattle.reading.proofs.Narrowing.{flat-small}
 
 -- m + 1 components: one, and then m

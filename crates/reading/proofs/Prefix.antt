@@ -13,8 +13,8 @@ use Rattle.patterns.specs.declared.Refusal.the-variants.{Sizes}
 use Rattle.patterns.specs.Tree.{size, graft}
 use Rattle.patterns.specs.Component.{points}
 use Rattle.patterns.specs.Reading.{Result, done, fault, andThen, mapped, readTree, readBranches, readTrees, readComponents}
-use Rattle.tree_reading.proofs.Results.{Good, or-false}
-use Rattle.tree_reading.proofs.Readback.{TreeOf, TreesOf, tree-good, trees-good}
+use Rattle.form_theory.proofs.Results.{Good, or-false}
+use Rattle.form_theory.proofs.ReadFrom.{TreeOf, TreesOf, tree-good, trees-good}
 
 -- what stands behind a fault, or in the arm that is not chosen, does not matter
 same-else : {A : Type 0} (b : Bool) (x : A) {y z : A} → (b ≡ false → y ≡ z) → cond b x y ≡ cond b x z

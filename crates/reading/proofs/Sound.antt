@@ -14,8 +14,8 @@ use Rattle.patterns.specs.System.{System, weight}
 use Rattle.patterns.specs.Reading.{Result, done, fault, andThen, cut, readComponents}
 use Rattle.tree_reading.specs.Walking.{readComponent}
 use Rattle.reading.specs.Shape.{ended, shapeBody, shape, codeShape}
-use Rattle.tree_reading.proofs.Results.{Good, good-then, good-mapped}
-use Rattle.tree_reading.proofs.Readback.{ComponentsOf, components-good}
+use Rattle.form_theory.proofs.Results.{Good, good-then, good-mapped}
+use Rattle.form_theory.proofs.ReadFrom.{ComponentsOf, components-good}
 use Rattle.reading.proofs.Gathering.{components-next, ComponentOf, component-good}
 
 some-tree : (c : Component) → 0 < length c → nonempty c ≡ true

@@ -16,7 +16,7 @@ use Rattle.tree_reading.specs.declared.Read.{Read}
 use Rattle.tree_reading.specs.declared.Read.the-variants.{Past, Refused}
 use Rattle.reading.specs.declared.Accepted.the-variants.{System as Held, Refused as NotAccepted}
 use Rattle.reading.specs.Shape.{ended, shapeBody, shape, walkedSystem, ReadInto, acceptance, AcceptedInto}
-use Rattle.tree_reading.proofs.Readback.{components-read}
+use Rattle.form_theory.proofs.ReadFrom.{components-read}
 use Rattle.reading.proofs.Prefix.{components-take}
 
 -- no component and some points: the components are refused anyway

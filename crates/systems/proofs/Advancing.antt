@@ -15,11 +15,11 @@ use Rattle.patterns.proofs.Trees.{length-flat}
 use Rattle.component_theory.specs.Successor.{successor}
 use Rattle.component_theory.proofs.Successor.{successor-valid}
 use Rattle.generation.specs.Step.{Node, Gave}
-use Rattle.systems.specs.Step.{fills}
+use Rattle.system_theory.specs.Step.{fills}
 use Rattle.memory.specs.Memory.{Holds}
 use Rattle.systems.specs.Held.{sum, fillNumbers, HeldAhead, Advanced}
 use Rattle.systems.proofs.Filling.{flat-fills, fill-here}
-use Rattle.systems.proofs.Parts.{held-points, held-unique}
+use Rattle.memory.proofs.Parts.{held-points, held-unique}
 
 -- a part in front of a list
 pub front-fits : (k : ℕ) (l m : List ℕ) → length l ≡ k → k ≤ length (l ++ m)

@@ -15,7 +15,7 @@ use Rattle.patterns.proofs.Trees.{size-positive, length-flat}
 use Rattle.patterns.proofs.Rotations.{valid-parts}
 use Rattle.memory.specs.Memory.{Held, Holds, HeldSystem}
 use Rattle.components.specs.Held.{HeldPair}
-use Rattle.systems.proofs.Parts.{held-count, held-points, held-size, held-fits, held-part, held-next, held-unique}
+use Rattle.memory.proofs.Parts.{held-count, held-points, held-size, held-fits, held-part, held-next, held-unique}
 
 -- a valid component has a point
 valid-points : (c : Component) → validComponent c ≡ true → 0 < points c

@@ -19,10 +19,10 @@ use Rattle.patterns.specs.Component.{Component, points, flat}
 use Rattle.patterns.specs.System.{System, codes}
 use Rattle.patterns.proofs.Trees.{length-flat}
 use Rattle.component_theory.proofs.Generation.{cycle-points}
-use Rattle.systems.specs.Step.{cycle, fill, fills}
+use Rattle.system_theory.specs.Step.{cycle, fill, fills}
 use Rattle.memory.specs.Memory.{Holds}
 use Rattle.systems.specs.Held.{sum, fillNumbers}
-use Rattle.systems.proofs.Firsts.{codes-first}
+use Rattle.system_theory.proofs.Firsts.{codes-first}
 
 -- The first system.
 

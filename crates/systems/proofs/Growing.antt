@@ -13,10 +13,10 @@ use borrow.Author.Tests.{ltb-true}
 use Rattle.lists.specs.Select.{each}
 use Rattle.lists.proofs.Tests.{and-true, each-head, each-tail, each-append}
 use Rattle.lists.proofs.Permute.{total-append}
-use Rattle.systems.specs.Step.{leastSizes, nextSizes}
+use Rattle.system_theory.specs.Step.{leastSizes, nextSizes}
 use Rattle.systems.specs.Held.{sum, SizesIn, NextIn}
-use Rattle.systems.proofs.Sizes.{least-alone, least-more}
-use Rattle.systems.proofs.Scan.{nextSizes-at}
+use Rattle.system_theory.proofs.Sizes.{least-alone, least-more}
+use Rattle.system_theory.proofs.StepScan.{nextSizes-at}
 
 -- positive sizes are at most as many as their points
 count-sum : (l : List ℕ) → each (ltb 0) l ≡ true → length l ≤ sum l

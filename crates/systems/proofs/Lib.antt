@@ -1,20 +1,8 @@
--- The theory of this layer.
-pub mod Bounds
-pub mod Sizes
-pub mod Canonical
-pub mod Codes
-pub mod Firsts
-pub mod Step
-pub mod Scan
-pub mod Numbers
-pub mod Readback
+-- The laws of this layer, in plain terms; the proofs of the functions cite them.
 pub mod Filling
 pub mod Growing
-pub mod Parts
 pub mod Checking
 pub mod Writing
-pub mod WrittenBack
-pub mod Calls
 pub mod Scanning
 pub mod Advancing
 pub mod Stepping

@@ -14,13 +14,13 @@ use Rattle.patterns.specs.Component.{Component, points, flat, validComponent}
 use Rattle.patterns.specs.System.{System, weight}
 use Rattle.component_theory.specs.Successor.{successor}
 use Rattle.component_theory.proofs.Successor.{successor-valid}
-use Rattle.systems.specs.Step.{fills, bump}
+use Rattle.system_theory.specs.Step.{fills, bump}
 use Rattle.memory.specs.Memory.{Holds}
 use Rattle.systems.specs.Held.{HeldAhead, Advanced, HeldCanonical, Bumped}
-use Rattle.systems.proofs.Canonical.{canonical-parts}
-use Rattle.systems.proofs.Scan.{bump-pass, bump-at}
+use Rattle.system_theory.proofs.Canonical.{canonical-parts}
+use Rattle.system_theory.proofs.StepScan.{bump-pass, bump-at}
 use Rattle.systems.proofs.Filling.{fills-points}
-use Rattle.systems.proofs.Parts.{weight-next, weight-cut, front-numbers, rest-numbers, held-size, held-count, held-points, held-unique}
+use Rattle.memory.proofs.Parts.{weight-next, weight-cut, front-numbers, rest-numbers, held-size, held-count, held-points, held-unique}
 use Rattle.systems.proofs.Advancing.{advanced-none, advanced-some}
 
 -- The system from a component on.

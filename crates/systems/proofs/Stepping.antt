@@ -15,15 +15,15 @@ use Rattle.lists.proofs.Permute.{total-map}
 use Rattle.patterns.specs.Component.{points, flat}
 use Rattle.patterns.specs.System.{System, weight, canonical}
 use Rattle.systems.specs.declared.Stepped.the-variants.{Next, Last}
-use Rattle.systems.specs.Step.{nextSizes, cycle, bump, step}
+use Rattle.system_theory.specs.Step.{nextSizes, cycle, bump, step}
 use Rattle.memory.specs.Memory.{Holds}
 use Rattle.systems.specs.Held.{sum, SizesIn, NextIn, HeldCanonical, Bumped, HeldStep, SteppedTo}
-use Rattle.systems.proofs.Sizes.{Upward, upward-nil, upward-cons}
-use Rattle.systems.proofs.Canonical.{canonical-upward}
-use Rattle.systems.proofs.Step.{step-greater}
-use Rattle.systems.proofs.Scan.{step-bump, step-sizes, step-none}
+use Rattle.system_theory.proofs.Sizes.{Upward, upward-nil, upward-cons}
+use Rattle.system_theory.proofs.Canonical.{canonical-upward}
+use Rattle.system_theory.proofs.Step.{step-keeps}
+use Rattle.system_theory.proofs.StepScan.{step-bump, step-sizes, step-none}
 use Rattle.systems.proofs.Filling.{flat-cycles, cycles-points}
-use Rattle.systems.proofs.Parts.{held-count, held-points, held-unique}
+use Rattle.memory.proofs.Parts.{held-count, held-points, held-unique}
 
 positive : {a : ℕ} {l : List ℕ} → 1 ≤ a → Upward a l → each (ltb 0) l ≡ true
 positive h upward-nil = refl
@@ -98,7 +98,7 @@ module _ {sizes : List ℕ} {m : ℕ} {numbers up side out : List ℕ} (w : Held
           let l : List ℕ = n .0 in
           let to : step S ≡ some (map cycle l) = step-sizes S l b (ap nextSizes (sym (h .points-are)) ∙ n .1) in
           let c : canonical S ≡ true = ap canonical (sym (held-unique (w .holds) h)) ∙ w .canonical-is in
-          let heavy : weight (map cycle l) ≡ weight S = step-greater S (map cycle l) c to .1 in
+          let heavy : weight (map cycle l) ≡ weight S = step-keeps S (map cycle l) c to .1 in
           let all : sum l ≡ length after =
           ap sum (sym (cycles-points l)) ∙ total-map (λ s. s) points (map cycle l) ∙ heavy ∙ sym (held-points h) ∙ sym len in
           let count : k ≡ length (map cycle l) = sym (length-take-le k sizes′ (n .2)) ∙ ap length (n .3) ∙ sym (length-map l cycle) in

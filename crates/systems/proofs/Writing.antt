@@ -16,9 +16,9 @@ use Rattle.written.specs.Putting.{placed, Placed}
 use Rattle.written.proofs.Placing.{placed-length, placed-start, placed-then}
 use Rattle.memory.specs.Memory.{Holds}
 use Rattle.systems.specs.Held.{Wrote, HeldRoom, HeldWritable}
-use Rattle.systems.proofs.Numbers.{write-length, bytes-append, bytes-length}
-use Rattle.systems.proofs.Readback.{length-components}
-use Rattle.systems.proofs.Parts.{take-next, weight-cut, part-fits, held-count, held-points, held-fits, held-part, held-next}
+use Rattle.form_theory.proofs.Numbers.{write-length, bytes-append, bytes-length}
+use Rattle.form_theory.proofs.Readback.{length-components}
+use Rattle.memory.proofs.Parts.{take-next, weight-cut, part-fits, held-count, held-points, held-fits, held-part, held-next}
 
 -- the output keeps its length
 pub placed-same : {l : List ℕ} {at r : ℕ} {before after : List ℕ} → at + length l ≤ length before → Placed l at before r after → length after ≡ length before

@@ -12,7 +12,7 @@ use Rattle.patterns.specs.System.{System, canonical}
 use Rattle.systems.specs.declared.Stepped.{Stepped}
 use Rattle.systems.specs.declared.Stepped.the-variants.{Next, Last}
 use Rattle.memory.specs.Memory.{Holds}
-use Rattle.systems.specs.Step.{fills}
+use Rattle.system_theory.specs.Step.{fills}
 
 abbrev pub sum : List ℕ → ℕ
 sum l = total (λ s. s) l

@@ -1,3 +1,2 @@
--- What the functions of this crate mean, and what the claim about the whole list of calls is made of.
-pub mod Step
+-- What the functions of this crate mean.
 pub mod Held

@@ -21,7 +21,7 @@ ghost use Rattle.patterns.specs.Component.{Component, flat};
 ghost use Rattle.patterns.specs.Written.{bytes as bytesOf, componentNumbers, written};
 ghost use Rattle.component_theory.specs.Successor.{successor as successorOf};
 ghost use Rattle.written.specs.Putting.{Placed};
-ghost use Rattle.systems.specs.Step.{nextSizes, bump as bumpOf, step};
+ghost use Rattle.system_theory.specs.Step.{nextSizes, bump as bumpOf, step};
 ghost use Rattle.memory.specs.Memory.{Holds, HeldSystem};
 ghost use Rattle.components.specs.Held.{HeldPair};
 ghost use Rattle.systems.specs.Held.{sum, SizesIn, NextIn, fillNumbers, HeldAhead, Advanced, HeldCanonical, Bumped, HeldStep, SteppedTo};

@@ -17,8 +17,8 @@ use Rattle.patterns.proofs.Trees.{points-append}
 use Rattle.tree_reading.specs.declared.Read.{Read}
 use Rattle.tree_reading.specs.declared.Read.the-variants.{Past, Refused}
 use Rattle.tree_reading.specs.Walking.{walked, walkedAll, readComponent}
-use Rattle.tree_reading.proofs.Results.{mapped-none, mapped-more}
-use Rattle.tree_reading.proofs.Readback.{tree-read}
+use Rattle.form_theory.proofs.Results.{mapped-none, mapped-more}
+use Rattle.form_theory.proofs.ReadFrom.{tree-read}
 use Rattle.tree_reading.proofs.Walking.{drop-one}
 
 -- i of k trees have been read, from place `at` to place `next`, and `rest` points are left.

@@ -1,5 +1,3 @@
 -- The laws of reading trees and components, in plain terms; the proofs of the functions cite them.
-pub mod Results
-pub mod Readback
 pub mod Walking
 pub mod Along

@@ -17,7 +17,7 @@ use Rattle.patterns.proofs.Trees.{size-positive, size-graft}
 use Rattle.tree_reading.specs.declared.Read.{Read}
 use Rattle.tree_reading.specs.declared.Read.the-variants.{Past, Refused}
 use Rattle.tree_reading.specs.Walking.{walked, walkedAll}
-use Rattle.tree_reading.proofs.Readback.{tree-read}
+use Rattle.form_theory.proofs.ReadFrom.{tree-read}
 
 pub drop-one : (s : List ℕ) (i : ℕ) → i < length s → drop i s ≡ getD s i 0 ∷ drop (i + 1) s
 drop-one s i h = rw (add-one, drop-cons s i 0)

@@ -6,7 +6,7 @@ use lib.ListN.{length}
 use Rattle.patterns.specs.System.{System}
 use Rattle.memory.specs.Memory.{Holds}
 use Rattle.component_reader.proofs.Locating.{Passed, passed-none, next-fits, next-held, next-small, start-bound, next-bound, passed-next, located, not-located}
-use Rattle.systems.proofs.Numbers.{write-length}
+use Rattle.form_theory.proofs.Numbers.{write-length}
 use Rattle.component_reader.proofs.stretch_in.Statement.{statement}
 use Rattle.component_reader.proofs.stretch_in.Tie as tie
 

@@ -5,7 +5,7 @@ use native.Mathlib.Omega.{arith}
 use borrow.Author.Needs.{needs}
 use lib.ListN.{length, take, getD}
 use Rattle.patterns.specs.Written.{bytes}
-use Rattle.systems.proofs.Numbers.{write-length}
+use Rattle.form_theory.proofs.Numbers.{write-length}
 use Rattle.component_reader.proofs.Widths.{widths-next, widths-fit, widths-all}
 use Rattle.component_reader.proofs.total_width.Statement.{statement}
 use Rattle.component_reader.proofs.total_width.Tie as tie

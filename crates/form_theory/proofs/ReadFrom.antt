@@ -16,7 +16,7 @@ use Rattle.patterns.specs.System.{System, weight}
 use Rattle.patterns.specs.Written.{componentNumbers}
 use Rattle.patterns.specs.Reading.{done, readTree, readBranches, readTrees, readComponents}
 use Rattle.patterns.proofs.Trees.{code-branches, branches-graft, size-graft}
-use Rattle.tree_reading.proofs.Results.{Good, good-then, good-mapped, good-done, or-false}
+use Rattle.form_theory.proofs.Results.{Good, good-then, good-mapped, good-done, or-false}
 
 -- two stretches, one after the other
 joined : (a b s : List ℕ) (m n : ℕ) → s ≡ a ++ drop m s → drop m s ≡ b ++ drop n (drop m s) → s ≡ (a ++ b) ++ drop (m + n) s

@@ -1,5 +1,5 @@
 -- Size lists, the nondecreasing lists of numbers with a given sum: which they are, that they rise lexicographically, the first one, and what follows one.
-use mathlib.Core.Path.{_≡_, refl, ap, ap₂, sym, _∙_}
+use mathlib.Core.Path.{_≡_, refl, ap, ap₂, sym, _∙_, subst}
 use mathlib.Core.Logic.{_⊎_, inl, inr}
 use mathlib.Core.List.{List, [], _∷_, _++_, map}
 use mathlib.Core.Bool.{Bool, true, false, cond, _||_}
@@ -18,7 +18,7 @@ use Rattle.lists.proofs.Places.{range-append}
 use Rattle.lists.proofs.Rising.{Rising, rising-nil, rising-single, rising-keep, rising-range, rising-map, rising-gather-rising, lawful-nodup}
 use Rattle.lists.proofs.Follow.{Within, first-map, first-gather, within-head, within-map, within-gather, within-next}
 use Rattle.patterns.specs.System.{firstSizes, sizeLists}
-use Rattle.systems.specs.Step.{leastSizes, nextSizes}
+use Rattle.system_theory.specs.Step.{leastSizes, nextSizes}
 
 -- no number is less than the one before it, where a stands before all
 pub data Upward : ℕ → List ℕ → Type 0 where
@@ -273,7 +273,7 @@ sizes-within zero a h (upward-cons p u) i = absurd (omega arith)
 sizes-within (suc k) a h (upward-cons {b = b} {l = l} p u) i =
     let z : b + sum l - b ≡ sum l = omega arith in
     rw (sizes-some k a (b + sum l) (omega arith))
-    (within-longer k a b l h p i u (rw z (sizes-within k b (omega arith) u (omega arith))))
+    (within-longer k a b l h p i u (subst (λ n. Within l (sizeLists k b n) (nextSizes l)) (sym z) (sizes-within k b (omega arith) u (omega arith))))
 
 -- no size list stands twice
 pub sizes-different : (k a n : ℕ) → NoDup (sizeLists k a n)

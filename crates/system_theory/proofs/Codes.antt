@@ -2,7 +2,7 @@
 use mathlib.Core.Path.{_≡_, ap, ap₂, sym, _∙_}
 use mathlib.Core.List.{List, [], _∷_, map}
 use mathlib.Core.Bool.{true}
-use Prim.Native.Nat.{ℕ, compare, Ordering, Ordering·lt}
+use Prim.Native.Nat.{ℕ, compare, Ordering·lt}
 use native.Mathlib.Omega.{arith}
 use lib.Dec.{eqb}
 use Rattle.lists.specs.Order.{then, lex}
@@ -13,19 +13,12 @@ use Rattle.lists.proofs.Permute.{total-map}
 use Rattle.lists.proofs.Members.{NoDup, of-map, in-gather, of-gather}
 use Rattle.lists.proofs.Rising.{Rising, rising-single, rising-nodup, rising-map, rising-gather-rising}
 use Rattle.patterns.specs.Component.{Component, points, compareComponent}
-use Rattle.patterns.specs.System.{System, weight, compareGenerated, canonical, available, systems, codes, sizeLists}
+use Rattle.patterns.specs.System.{System, weight, compareGenerated, canonical, available, systems, codes, sizeLists, compareCodes}
 use Rattle.lists.proofs.RisingPlaces.{rising-change}
 use Rattle.component_theory.proofs.Paths.{generated-self, generated-rises}
 use Rattle.lists.proofs.Neighbours.{rising-from}
-use Rattle.systems.proofs.Sizes.{upward-from, sum, sizes-sound, sizes-complete, sizes-rise}
-use Rattle.systems.proofs.Canonical.{generatedKey, compareGenerated-key, canonical-upward, systems-sound, systems-complete}
-
--- The published order: by the size lists, then component by component in generation order.
-unfoldable pub compareCodes : System → System → Ordering
-unfolding compareGenerated
-compareCodes S R =
-    let components = lex compareGenerated S R in
-    then (lex compare (map points S) (map points R)) components
+use Rattle.system_theory.proofs.Sizes.{upward-from, sum, sizes-sound, sizes-complete, sizes-rise}
+use Rattle.system_theory.proofs.Canonical.{generatedKey, compareGenerated-key, canonical-upward, systems-sound, systems-complete}
 
 -- the numbers that it compares
 abbrev codeKey : System → List (List ℕ)

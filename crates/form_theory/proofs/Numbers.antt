@@ -11,8 +11,8 @@ use borrow.Author.Tests.{lt-ltb, le-ltb, ltb-true, ltb-false, lt-leb, leb-false,
 use Rattle.lists.proofs.Tests.{by-test, choose-case}
 use Rattle.patterns.specs.Written.{writeNumber, bytes}
 use Rattle.patterns.specs.Reading.{done, mapped, cut}
-use Rattle.tree_reading.proofs.Results.{Good, good-mapped, good-done, or-false}
-use Rattle.systems.proofs.Bounds.{allBelow, below-cons, below-head, below-tail, below-append}
+use Rattle.form_theory.proofs.Results.{Good, good-mapped, good-done, or-false}
+use Rattle.form_theory.proofs.Bounds.{allBelow, below-cons, below-head, below-tail, below-append}
 use Rattle.lists.proofs.Members.{gather-append}
 
 pub write-short : (x : ℕ) → x < 128 → writeNumber x ≡ x ∷ []

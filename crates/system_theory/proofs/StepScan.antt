@@ -6,7 +6,7 @@ use Prim.Native.Nat.{ℕ, suc, _+_}
 use Rattle.patterns.specs.Component.{Component, points}
 use Rattle.patterns.specs.System.{System}
 use Rattle.component_theory.specs.Successor.{successor}
-use Rattle.systems.specs.Step.{leastSizes, nextSizes, cycle, fills, bump, step}
+use Rattle.system_theory.specs.Step.{leastSizes, nextSizes, cycle, fills, bump, step}
 
 -- no component has a successor, so far from the right
 pub bump-pass : (c : Component) (S : System) → bump S ≡ none → successor c ≡ none → bump (c ∷ S) ≡ none

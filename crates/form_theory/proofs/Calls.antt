@@ -21,8 +21,8 @@ use Rattle.patterns.specs.Replies.{Answer, length-is, last, lacking, refused}
 use Rattle.patterns.specs.Entry.{Outcome, answered, Replied, outcome, listed, firstOf, successorOf}
 use Rattle.patterns.proofs.Trees.{compareSystem-lawful}
 use Rattle.patterns.specs.Calls.{State, fresh, wrote, stepOf, Call, entry, said-last, refusal, Calls, no-buffer, writes, says-last, refuses, entries, ended, roomy, Once, Map, codeOf, Isomorphic, Enumeration}
-use Rattle.systems.proofs.WrittenBack.{written-back, written-fits, written-equal}
-use Rattle.systems.proofs.Codes.{codes-sound, codes-complete, codes-different}
+use Rattle.form_theory.proofs.WrittenBack.{written-back, written-fits, written-equal}
+use Rattle.system_theory.proofs.Codes.{codes-sound, codes-complete, codes-different}
 
 -- the calls that are made where the codes of r are still to come
 unfoldable pub runOf : List System → List (List ℕ) → List Call

@@ -16,8 +16,8 @@ use Rattle.patterns.specs.Component.{Component, points, flat, nonempty, rotatio
 use Rattle.patterns.specs.System.{System, weight, compareGenerated, inOrder, canonical}
 use Rattle.patterns.specs.Written.{componentNumbers, numbers}
 use Rattle.patterns.specs.Reading.{done, readTree, readBranches, readTrees, readComponents, finished, readBody, readSystem}
-use Rattle.tree_reading.proofs.Results.{Good, good-weaken, good-then, good-done}
-use Rattle.tree_reading.proofs.Readback.{ComponentsOf, components-good}
+use Rattle.form_theory.proofs.Results.{Good, good-weaken, good-then, good-done}
+use Rattle.form_theory.proofs.ReadFrom.{ComponentsOf, components-good}
 use Rattle.patterns.proofs.Trees.{size-positive, length-code, length-flat, below-branches, code-branches, size-branches, graft-branches, branches-graft, size-graft}
 
 total-branches : (t : Tree) → total size (branches t) ≡ size t - 1

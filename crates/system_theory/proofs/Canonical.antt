@@ -20,7 +20,7 @@ use Rattle.patterns.proofs.Trees.{size-positive, compareComponent-lawful}
 use Rattle.patterns.proofs.Rotations.{valid-nonempty}
 use Rattle.component_theory.proofs.Generation.{generation-sound, generation-complete, generation-once}
 use Rattle.lists.proofs.Neighbours.{in-from, of-from}
-use Rattle.systems.proofs.Sizes.{Upward, upward-nil, upward-cons, upward-head, upward-tail}
+use Rattle.system_theory.proofs.Sizes.{Upward, upward-nil, upward-cons, upward-head, upward-tail}
 
 -- a valid component has a point
 pub points-positive : (c : Component) → validComponent c ≡ true → 0 < points c

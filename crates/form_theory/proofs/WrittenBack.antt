@@ -14,11 +14,11 @@ use Rattle.patterns.specs.Component.{Component, points, flat}
 use Rattle.patterns.specs.System.{System, weight, canonical}
 use Rattle.patterns.specs.Written.{componentNumbers, numbers, writeNumber, bytes, written, startOf}
 use Rattle.patterns.specs.Reading.{done, cut, readSystem, accepted}
-use Rattle.tree_reading.proofs.Results.{Good, good-weaken, good-then, good-done}
-use Rattle.systems.proofs.Bounds.{allBelow, below-cons, below-append, length-gather}
+use Rattle.form_theory.proofs.Results.{Good, good-weaken, good-then, good-done}
+use Rattle.form_theory.proofs.Bounds.{allBelow, below-cons, below-append, length-gather}
 use Rattle.lists.proofs.Members.{gather-append}
-use Rattle.systems.proofs.Numbers.{cut-bytes, cut-good, bytes-append, bytes-below, bytes-length, write-length}
-use Rattle.systems.proofs.Readback.{trees-points, components-points, canonical-nonempty, length-components, read-system, system-good}
+use Rattle.form_theory.proofs.Numbers.{cut-bytes, cut-good, bytes-append, bytes-below, bytes-length, write-length}
+use Rattle.form_theory.proofs.Readback.{trees-points, components-points, canonical-nonempty, length-components, read-system, system-good}
 use Rattle.patterns.proofs.Trees.{size-positive}
 
 -- the numbers of a tree, component or system are below any bound on its points

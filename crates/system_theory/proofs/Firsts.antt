@@ -16,11 +16,11 @@ use Rattle.patterns.specs.Tree.{point}
 use Rattle.patterns.specs.Component.{Component, points, validComponent}
 use Rattle.patterns.specs.System.{available, systems, codes, sizeLists}
 use Rattle.patterns.proofs.Trees.{compareComponent-lawful}
-use Rattle.systems.specs.Step.{leastSizes, cycle, fill, fills}
+use Rattle.system_theory.specs.Step.{leastSizes, cycle, fill, fills}
 use Rattle.component_theory.proofs.Generation.{generation-complete, generation-first, cycle-points}
 use Rattle.lists.proofs.Neighbours.{first-from}
-use Rattle.systems.proofs.Sizes.{Upward, upward-nil, upward-cons, upward-head, upward-tail, upward-from, sizes-sound, sizes-first, least-alone}
-use Rattle.systems.proofs.Canonical.{of-available}
+use Rattle.system_theory.proofs.Sizes.{Upward, upward-nil, upward-cons, upward-head, upward-tail, upward-from, sizes-sound, sizes-first, least-alone}
+use Rattle.system_theory.proofs.Canonical.{of-available}
 
 -- the first component that may stand to the right of p
 pub available-first : (p : Component) (s : ℕ) → (0 < points p → validComponent p ≡ true) → 1 ≤ s → first (available p s) ≡ some (fill p s)

@@ -16,17 +16,17 @@ use Rattle.lists.proofs.Rising.{rising-head, rising-right}
 use Rattle.lists.proofs.Follow.{Within, in-within, within-head, within-from, within-next, within-unique, within-some, within-last, within-map, within-gather, within-some-in}
 use Rattle.patterns.specs.Component.{Component, points, compareComponent, validComponent}
 use Rattle.patterns.specs.Generation.{generation}
-use Rattle.patterns.specs.System.{System, weight, compareGenerated, inOrder, canonical, available, systems, codes, compareSystem}
+use Rattle.patterns.specs.System.{System, weight, compareGenerated, inOrder, canonical, available, systems, codes, compareCodes, compareSystem}
 use Rattle.patterns.proofs.Trees.{compareSystem-lawful}
 use Rattle.component_theory.specs.Successor.{successor}
-use Rattle.systems.specs.Step.{cycle, fills, bump, step}
+use Rattle.system_theory.specs.Step.{cycle, fills, bump, step}
 use Rattle.component_theory.proofs.Generation.{generation-once}
 use Rattle.component_theory.proofs.Successor.{successor-within}
 use Rattle.lists.proofs.Neighbours.{neighbours-gap, last-greatest}
-use Rattle.systems.proofs.Sizes.{sum, sizes-sound, sizes-within}
-use Rattle.systems.proofs.Canonical.{points-positive, generated-points, inOrder-parts, inOrder-upward, canonical-upward, in-available}
-use Rattle.systems.proofs.Codes.{compareCodes, codes-apart, codes-rise, codes-sound, codes-complete, codes-different}
-use Rattle.systems.proofs.Firsts.{pieces-start, sizes-start}
+use Rattle.system_theory.proofs.Sizes.{upward-from, sum, sizes-sound, sizes-within}
+use Rattle.system_theory.proofs.Canonical.{points-positive, generated-points, inOrder-parts, inOrder-upward, canonical-upward, in-available, systems-sound}
+use Rattle.system_theory.proofs.Codes.{codes-apart, codes-rise, codes-sound, codes-complete, codes-different}
+use Rattle.system_theory.proofs.Firsts.{pieces-start, sizes-start}
 
 -- what follows among the components that may stand to the right of p follows among all of them
 available-whole : (p c : Component) (s : ℕ) {r : Option Component} → Within c (available p s) r → Within c (generation s) r
@@ -73,13 +73,20 @@ step-cut n a b S e =
     let s = codes-sound n S (in-list (sym e) (in-middle a b)) in
     within-unique (codes-different n) (rw (s .1) at (step-within S (s .0))) (record { before = a; after = b; cut = e; follows = refl })
 
--- the step goes to a greater canonical system of as many points
-pub step-greater : (S R : System) → canonical S ≡ true → step S ≡ some R → (canonical R ≡ true) × (weight R ≡ weight S) × (compareCodes S R ≡ Ordering·lt)
+-- With these a loop can take one step after another: the step keeps canonical and the number of points, and with the same sizes it keeps the sizes.
+pub bump-keeps : (S R : System) → canonical S ≡ true → bump S ≡ some R → (canonical R ≡ true) × (map points R ≡ map points S)
+unfolding canonical
+bump-keeps S R e f =
+    systems-sound [] (map points S) (upward-from (omega arith) (canonical-upward S e)) (within-some-in (rw f at (bump-within [] S e)))
+
+pub step-keeps : (S R : System) → canonical S ≡ true → step S ≡ some R → (canonical R ≡ true) × (weight R ≡ weight S)
+step-keeps S R e f = codes-sound (weight S) R (within-some-in (rw f at (step-within S e)))
+
+-- the step goes to a greater system
+pub step-greater : (S R : System) → canonical S ≡ true → step S ≡ some R → compareCodes S R ≡ Ordering·lt
 step-greater S R e f =
-    let i = rw f at (step-within S e) in
-    let s = codes-sound (weight S) R (within-some-in i) in
-    let c = within-some i in
-    (s .0, s .1, rising-head (rising-right (c .0) (S ∷ R ∷ c .1) (rw (c .2) at (codes-rise (weight S)))) in-head)
+    let c = within-some (rw f at (step-within S e)) in
+    rising-head (rising-right (c .0) (S ∷ R ∷ c .1) (rw (c .2) at (codes-rise (weight S)))) in-head
 
 -- and to the least one: whatever is greater than S is that or greater than that
 pub step-least : (S R T : System) → canonical S ≡ true → step S ≡ some R → canonical T ≡ true → weight T ≡ weight S → compareCodes S T ≡ Ordering·lt

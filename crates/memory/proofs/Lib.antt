@@ -1,0 +1,2 @@
+-- The laws of what lent slices hold.
+pub mod Parts

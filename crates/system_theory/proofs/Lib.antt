@@ -1,0 +1,7 @@
+-- The theory of systems: size lists, canonical systems, the list of all codes and its order, the first code, and the step to the next.
+pub mod Sizes
+pub mod Canonical
+pub mod Codes
+pub mod Firsts
+pub mod Step
+pub mod StepScan

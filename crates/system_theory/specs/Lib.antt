@@ -1,0 +1,2 @@
+-- What the theory of systems adds to the definitions of mapping patterns.
+pub mod Step
