@@ -5,7 +5,7 @@ use patterns::Refusal;
 use patterns::Stretch;
 use patterns::points_room;
 use reading::Accepted;
-use reading::accept_into;
+use acceptance::accept_into;
 ghost use denote.Ref.{now};
 ghost use mathlib.Core.Path.{_≡_};
 ghost use Prim.Native.Nat.{_≤_};

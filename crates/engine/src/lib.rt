@@ -15,7 +15,7 @@ pub use patterns::Row;
 pub use patterns::Successor;
 use patterns::points_room;
 use reading::Accepted;
-use reading::accept_into;
+use acceptance::accept_into;
 use systems::Stepped;
 use systems::first_system;
 use systems::next_system;

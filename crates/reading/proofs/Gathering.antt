@@ -11,7 +11,7 @@ use lib.ListN.{length, take, drop, getD, set, length-append, length-drop, length
 use lib.Seq.{drop-drop, take-at, take-suc-set, length-take-le}
 use borrow.Author.Tests.{eq-eqb, ne-eqb, eqb-false}
 use Rattle.lists.specs.Select.{gather}
-use Rattle.lists.proofs.Tests.{by-test, choose-case}
+use Rattle.lists.proofs.Tests.{by-test, choose-case, clash}
 use Rattle.lists.proofs.Members.{gather-append}
 use Rattle.lists.proofs.Permute.{total-append}
 use Rattle.patterns.specs.declared.Refusal.{Refusal}
@@ -23,10 +23,10 @@ use Rattle.patterns.specs.Reading.{Result, done, fault, andThen, mapped, readTr
 use Rattle.patterns.proofs.Trees.{length-flat}
 use Rattle.written.specs.Putting.{placed}
 use Rattle.written.proofs.Placing.{placed-length}
-use Rattle.reading.specs.declared.Read.{Read}
-use Rattle.reading.specs.declared.Read.the-variants.{Past, Refused}
-use Rattle.reading.specs.Walking.{walkedAll, readComponent}
-use Rattle.reading.specs.Shape.{Room, ReadInto}
+use Rattle.tree_reading.specs.declared.Read.{Read}
+use Rattle.tree_reading.specs.declared.Read.the-variants.{Past, Refused}
+use Rattle.tree_reading.specs.Walking.{walkedAll, readComponent}
+use Rattle.reading.specs.Shape.{MemoryRoom, ReadInto}
 use Rattle.form_theory.proofs.Results.{Good, good-weaken, good-done, or-false, mapped-none, mapped-more}
 use Rattle.form_theory.proofs.ReadFrom.{TreesOf, trees-good}
 use Rattle.reading.proofs.Narrowing.{flat-small}
@@ -64,10 +64,10 @@ pub record ComponentAt (s : List ℕ) (next rest end : ℕ) (c : Component) : Ty
 
 component-of : (at next : ℕ) (o : Result Component) → walkedAll at o ≡ Past next → (c : Component) × (o ≡ done c) × (next ≡ at + points c)
 component-of at next (done c) e = (c, refl, cc)
-component-of at next (fault c) e = absurd (let z : _≡_ {A = ℕ} 0 1 = cc in omega arith)
+component-of at next (fault c) e = clash cc
 
 component-fault : (at : ℕ) (c : Refusal) (o : Result Component) → walkedAll at o ≡ Refused c → o ≡ fault c
-component-fault at c (done t) e = absurd (let z : _≡_ {A = ℕ} 0 1 = cc in omega arith)
+component-fault at c (done t) e = clash cc
 component-fault at c (fault d) e = ap fault cc
 
 placed-component : (s : List ℕ) (next rest end : ℕ) (c : Component) → readComponent rest (drop next s) ≡ done c → end ≡ next + 1 + points c
@@ -101,7 +101,7 @@ pub component-bytes : {s : List ℕ} {next rest end : ℕ} {c : Component} → C
 component-bytes {s} {next} {rest} {end} {c} a h i = rw (a .flat-is) (omega (arith, flat-small c (points c) (omega arith) i, a .within))
 
 -- Components one after another: i of m have been read, from place `at` to place `next`, and `rest` points are left.
-pub record Gathering (s sizes₀ numbers₀ : List ℕ) (at m left : ℕ) (sizes numbers : List ℕ) (next rest i : ℕ) : Type 0 where
+pub record Gathering (s sizes₀ trees₀ : List ℕ) (at m left : ℕ) (sizes trees : List ℕ) (next rest i : ℕ) : Type 0 where
   pub turn : i ≤ m
   pub had : System
   pub count : length had ≡ i
@@ -109,12 +109,12 @@ pub record Gathering (s sizes₀ numbers₀ : List ℕ) (at m left : ℕ) (sizes
   pub points-left : rest + weight had ≡ left
   pub further : readComponents m left (drop at s) ≡ mapped (had ++_) (readComponents (m - i) rest (drop next s))
   pub same-sizes : length sizes ≡ length sizes₀
-  pub same-numbers : length numbers ≡ length numbers₀
+  pub same-trees : length trees ≡ length trees₀
   pub points-are : take i sizes ≡ map points had
-  pub flat-is : take (left - rest) numbers ≡ gather flat had
+  pub flat-is : take (left - rest) trees ≡ gather flat had
 
-pub gathering-start : (s sizes numbers : List ℕ) (at m left : ℕ) → Gathering s sizes numbers at m left sizes numbers at left 0
-gathering-start s sizes numbers at m left =
+pub gathering-start : (s sizes trees : List ℕ) (at m left : ℕ) → Gathering s sizes trees at m left sizes trees at left 0
+gathering-start s sizes trees at m left =
     let z : left - left ≡ 0 = omega arith in
     record {
       turn = omega arith;
@@ -124,7 +124,7 @@ gathering-start s sizes numbers at m left =
       points-left = omega arith;
       further = rw sub-zero (mapped-none (readComponents m left (drop at s)));
       same-sizes = refl;
-      same-numbers = refl;
+      same-trees = refl;
       points-are = refl;
       flat-is = rw z;
     }
@@ -143,20 +143,20 @@ map-snoc f (y ∷ l) x = ap (f y ∷_) (map-snoc f l x)
 gather-snoc : (S : System) (c : Component) → gather flat (S ++ (c ∷ [])) ≡ gather flat S ++ flat c
 gather-snoc S c = gather-append flat S (c ∷ []) ∙ ap (gather flat S ++_) (append-nil (flat c))
 
-module _ {s sizes₀ numbers₀ : List ℕ} {at m left : ℕ} {sizes numbers : List ℕ} {next rest i : ℕ}
-    (room : Room m left sizes₀ numbers₀) (w : Gathering s sizes₀ numbers₀ at m left sizes numbers next rest i) where
+module _ {s sizes₀ trees₀ : List ℕ} {at m left : ℕ} {sizes trees : List ℕ} {next rest i : ℕ}
+    (room : MemoryRoom m left sizes₀ trees₀) (w : Gathering s sizes₀ trees₀ at m left sizes trees next rest i) where
   more : i < m → m - i ≡ suc (m - (i + 1))
   more h = omega arith
 
   -- room for its numbers
-  pub gathering-room : {c : Component} {end : ℕ} → ComponentAt s next rest end c → left - rest + length (take (end - (next + 1)) (drop (next + 1) s)) ≤ length numbers
+  pub gathering-room : {c : Component} {end : ℕ} → ComponentAt s next rest end c → left - rest + length (take (end - (next + 1)) (drop (next + 1) s)) ≤ length trees
   gathering-room {c} {end} a =
-      rw (a .flat-is, length-flat c) (omega (arith, room .points, w .same-numbers, w .points-left, a .within))
+      rw (a .flat-is, length-flat c) (omega (arith, room .points, w .same-trees, w .points-left, a .within))
 
   -- one more component
   pub gathering-next : (c : Component) (end : ℕ) → ComponentAt s next rest end c → i < m
-      → Gathering s sizes₀ numbers₀ at m left (set sizes i (end - next - 1))
-      (placed (left - rest) (take (end - (next + 1)) (drop (next + 1) s)) numbers)
+      → Gathering s sizes₀ trees₀ at m left (set sizes i (end - next - 1))
+      (placed (left - rest) (take (end - (next + 1)) (drop (next + 1) s)) trees)
       end (rest - (end - next - 1)) (i + 1)
   gathering-next c end a h =
       let size : end - next - 1 ≡ points c = omega (arith, a .place) in
@@ -176,35 +176,35 @@ module _ {s sizes₀ numbers₀ : List ℕ} {at m left : ℕ} {sizes numbers : L
             ∙ rw (more h, components-next (m - (i + 1)) rest (drop next s), a .is, drop-drop (suc (points c)) next s, from, size)
             (mapped-more (w .had) c (readComponents (m - (i + 1)) (rest - points c) (drop end s)));
         same-sizes = simp length-set (w .same-sizes);
-        same-numbers =
+        same-trees =
             rw (a .flat-is)
-            (placed-length (left - rest) (flat c) numbers (omega (arith, room .points, w .same-numbers, w .points-left, a .within)) ∙ w .same-numbers);
+            (placed-length (left - rest) (flat c) trees (omega (arith, room .points, w .same-trees, w .points-left, a .within)) ∙ w .same-trees);
         points-are =
             rw (add-one, size, map-snoc points (w .had) c, ← w .points-are)
             (take-suc-set sizes i (points c) (omega (arith, room .components, w .same-sizes)));
         flat-is =
             rw (a .flat-is, size, filled, gather-snoc (w .had) c, ← w .flat-is)
-            (take-placed (left - rest) (flat c) numbers (omega (arith, room .points, w .same-numbers)));
+            (take-placed (left - rest) (flat c) trees (omega (arith, room .points, w .same-trees)));
       }
 
   -- a component that is refused
   pub gathering-refused : (c : Refusal) (r : Read) → i < m → r ≡ walkedAll (next + 1) (readComponent rest (drop next s)) → r ≡ Refused c
-      → ReadInto at (readComponents m left (drop at s)) r sizes numbers
+      → ReadInto at (readComponents m left (drop at s)) r sizes trees
   gathering-refused c r h g e =
       let f = component-fault (next + 1) c (readComponent rest (drop next s)) (sym g ∙ e) in
       let o : readComponents m left (drop at s) ≡ fault c = w .further ∙ rw (more h, components-next (m - (i + 1)) rest (drop next s), f) in
-      record { reply = e ∙ rw o; held = λ S q. absurd (let z : _≡_ {A = ℕ} 0 1 = cc in omega arith) }
+      record { reply = e ∙ rw o; held = λ S q. clash cc }
 
   -- points are left after the last component
-  pub gathering-over : m ≤ i → 0 < rest → ReadInto at (readComponents m left (drop at s)) (Refused Sizes) sizes numbers
+  pub gathering-over : m ≤ i → 0 < rest → ReadInto at (readComponents m left (drop at s)) (Refused Sizes) sizes trees
   unfolding readComponents
   gathering-over h p =
       let z : m - i ≡ 0 = omega arith in
       let o : readComponents m left (drop at s) ≡ fault Sizes = w .further ∙ rw (z, ne-eqb rest 0 (λ e. omega arith)) in
-      record { reply = rw o; held = λ S q. absurd (let y : _≡_ {A = ℕ} 0 1 = cc in omega arith) }
+      record { reply = rw o; held = λ S q. clash cc }
 
   -- nothing is left
-  pub gathering-end : m ≤ i → rest ≤ 0 → ReadInto at (readComponents m left (drop at s)) (Past next) sizes numbers
+  pub gathering-end : m ≤ i → rest ≤ 0 → ReadInto at (readComponents m left (drop at s)) (Past next) sizes trees
   unfolding readComponents
   gathering-end h p =
       let z : m - i ≡ 0 = omega arith in

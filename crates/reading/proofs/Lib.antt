@@ -1,9 +1,7 @@
--- The laws of reading, in plain terms; the proofs of the functions cite them.
-pub mod Walking
+-- The laws of reading a code, in plain terms; the proofs of the functions cite them.
 pub mod Narrowing
-pub mod Along
 pub mod Gathering
 pub mod Prefix
 pub mod Whole
-pub mod Checking
-pub mod Accepting
+pub mod Kept
+pub mod Sound

@@ -1,15 +1,15 @@
--- Reading a whole code in two parts: first its shape, then whether it is canonical. What the readers answer, and what they leave in the lent memory.
+-- The shape of a whole code: all that is checked of it but whether it is canonical. What the readers answer, and what they leave in the lent memory.
 use mathlib.Core.Path.{_≡_}
 use mathlib.Core.Bool.{cond, _&&_, _||_}
 use mathlib.Core.List.{List, [], _∷_}
 use Prim.Native.Nat.{ℕ, _+_, _≤_}
 use lib.Dec.{ltb, eqb}
 use lib.ListN.{length, take, drop}
-use Rattle.patterns.specs.declared.Refusal.the-variants.{Count, Truncated, Sizes, NotCanonical, Trailing}
-use Rattle.patterns.specs.System.{System, weight, canonical}
-use Rattle.patterns.specs.Reading.{Result, done, fault, andThen, readComponents}
-use Rattle.reading.specs.declared.Read.{Read}
-use Rattle.reading.specs.declared.Read.the-variants.{Past, Refused}
+use Rattle.patterns.specs.declared.Refusal.the-variants.{Count, Truncated, Sizes, Trailing}
+use Rattle.patterns.specs.System.{System, weight}
+use Rattle.patterns.specs.Reading.{Result, done, fault, andThen, cut, readComponents}
+use Rattle.tree_reading.specs.declared.Read.{Read}
+use Rattle.tree_reading.specs.declared.Read.the-variants.{Past, Refused}
 use Rattle.reading.specs.declared.Accepted.{Accepted}
 use Rattle.reading.specs.declared.Accepted.the-variants.{System as Held, Refused as NotAccepted}
 use Rattle.memory.specs.Memory.{Holds}
@@ -19,7 +19,7 @@ abbrev pub ended : System → List ℕ → Result System
 ended S [] = done S
 ended S (x ∷ rest) = fault Trailing
 
--- as `readBody` and `readSystem` of the definitions, but for the last check
+-- as `readBody` and `readSystem` of the definitions, but for the last check, whether the system is canonical
 unfoldable pub shapeBody : ℕ → List ℕ → Result System
 unfolding readComponents
 shapeBody n [] = fault Truncated
@@ -34,17 +34,20 @@ shape (n ∷ s) =
     let more = shapeBody n s in
     cond (ltb 200 n) (fault Count) more
 
--- the last check
-unfoldable pub checked : System → Result System
-unfolding canonical
-checked S =
-    let tested = canonical S in
-    cond tested (done S) (fault NotCanonical)
+-- a written code is cut into numbers, and then the numbers are read
+unfoldable pub codeShape : List ℕ → Result System
+unfolding cut shape
+codeShape b = andThen (cut b) shape
 
--- the lent memory has room for m components of n points in all, and the numbers of n points fit
-pub record Room (m n : ℕ) (sizes numbers : List ℕ) : Type 0 where
+-- How many numbers of a code are kept to be read: a code of 200 points has n, m, a number for each of its components and one for each of its points,
+-- and one more shows that some are left.
+abbrev pub keptNumbers : ℕ
+keptNumbers = 403
+
+-- the lent memory has room for m components of n points in all, and each number of points is a byte
+pub record MemoryRoom (m n : ℕ) (sizes trees : List ℕ) : Type 0 where
   pub components : m ≤ length sizes
-  pub points : n ≤ length numbers
+  pub points : n ≤ length trees
   pub small : n ≤ 200
 
 -- components read from place `at` on take a number each, and as many more as they have points
@@ -53,9 +56,9 @@ walkedSystem at (done S) = Past (at + (length S + weight S))
 walkedSystem at (fault c) = Refused c
 
 -- the components were read, and the memory then holds them in its first places; after a refusal what it holds is left free
-pub record ReadInto (at : ℕ) (o : Result System) (r : Read) (sizes numbers : List ℕ) : Type 0 where
+pub record ReadInto (at : ℕ) (o : Result System) (r : Read) (sizes trees : List ℕ) : Type 0 where
   pub reply : r ≡ walkedSystem at o
-  pub held : (S : System) → o ≡ done S → Holds S (take (length S) sizes) (take (weight S) numbers)
+  pub held : (S : System) → o ≡ done S → Holds S (take (length S) sizes) (take (weight S) trees)
 
 -- the number of components and the number of points
 abbrev pub acceptance : Result System → Accepted
@@ -63,13 +66,6 @@ acceptance (done S) = Held (length S) (weight S)
 acceptance (fault c) = NotAccepted c
 
 -- the same for a whole code
-pub record AcceptedInto (o : Result System) (r : Accepted) (sizes numbers : List ℕ) : Type 0 where
+pub record AcceptedInto (o : Result System) (r : Accepted) (sizes trees : List ℕ) : Type 0 where
   pub reply : r ≡ acceptance o
-  pub held : (S : System) → o ≡ done S → Holds S (take (length S) sizes) (take (weight S) numbers)
-
--- s has the first 403 of `count` numbers, or all of them, and the lent memory has 200 places each
-pub record FirstNumbers (s : List ℕ) (count : ℕ) (sizes numbers : List ℕ) : Type 0 where
-  pub all : List ℕ
-  pub first : s ≡ take 403 all
-  pub counted : count ≡ length all
-  pub room : (length sizes ≡ 200) × (length numbers ≡ 200)
+  pub held : (S : System) → o ≡ done S → Holds S (take (length S) sizes) (take (weight S) trees)

@@ -1,8 +1,11 @@
-// A whole code in memory: the first one of n points, the step to the next, and the bytes of its written form.
+// A whole code in memory: whether it is canonical, the first one of n points, the step to the next, and the bytes of its written form.
 //
 // A system is two lent slices: `sizes`, the points of each component, and `numbers`, the flat components one after another.
+use components::compare_generated;
 use components::count;
+use components::valid_component;
 use generation::successor;
+use lists::Order;
 use lists::set_all;
 use written::put_number;
 ghost use denote.Ref.{now};
@@ -12,13 +15,15 @@ ghost use mathlib.Core.Option.{some};
 ghost use Prim.Native.Nat.{ℕ, _≤_, _+_};
 ghost use lib.ListN.{length, take, replicate};
 ghost use Rattle.lists.specs.Select.{first, gather};
-ghost use Rattle.patterns.specs.System.{System, codes};
+ghost use Rattle.lists.specs.Order.{atMost};
+ghost use Rattle.patterns.specs.System.{System, codes, compareGenerated, canonical as canonicalSystem};
 ghost use Rattle.patterns.specs.Component.{Component, flat};
 ghost use Rattle.patterns.specs.Written.{bytes as bytesOf, componentNumbers, written};
 ghost use Rattle.component_theory.specs.Successor.{successor as successorOf};
 ghost use Rattle.written.specs.Putting.{Placed};
 ghost use Rattle.system_theory.specs.Step.{nextSizes, bump as bumpOf, step};
-ghost use Rattle.memory.specs.Memory.{Holds};
+ghost use Rattle.memory.specs.Memory.{Holds, HeldSystem};
+ghost use Rattle.components.specs.Held.{HeldPair};
 ghost use Rattle.systems.specs.Held.{sum, SizesIn, NextIn, fillNumbers, HeldAhead, Advanced, HeldCanonical, Bumped, HeldStep, SteppedTo};
 ghost use Rattle.systems.specs.Held.{HeldRoom, HeldWritable, Wrote};
 
@@ -26,6 +31,41 @@ ghost use Rattle.systems.specs.Held.{HeldRoom, HeldWritable, Wrote};
 pub enum Stepped {
     Next(usize),
     Last,
+}
+
+// `right` does not come before `left`.
+fn follows(left: &[u8], right: &[u8]) -> bool
+    requires { ⌜ HeldPair (now left) (now right) ⌝ }
+    ensures { λ r. ⌜ ((p c : Component) → now (left .entry) ≡ flat p → now (right .entry) ≡ flat c → r ≡ atMost compareGenerated p c) ⌝ }
+{
+    match compare_generated(left, right) {
+        Order::Less => true,
+        Order::Equal => true,
+        Order::Greater => false,
+    }
+}
+
+// Every component is valid, and none comes before its left neighbour [document 004, Definition 14].
+pub fn canonical(sizes: &[u8], trees: &[u8]) -> bool
+    requires { ⌜ HeldSystem (now sizes) (now trees) ⌝ }
+    ensures { λ r. ⌜ ((S : System) → Holds S (now (sizes .entry)) (now (trees .entry)) → r ≡ canonicalSystem S) ⌝ }
+{
+    let mut last = 0;
+    let mut at = 0;
+    let mut i = 0;
+    while i < sizes.len() {
+        let end = at + sizes[i] as usize;
+        if !valid_component(&trees[at..end]) {
+            return false;
+        }
+        if !follows(&trees[last..at], &trees[at..end]) {
+            return false;
+        }
+        last = at;
+        at = end;
+        i += 1;
+    }
+    true
 }
 
 // The first system: as many fixed points as the slices have places.

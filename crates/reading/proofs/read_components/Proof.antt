@@ -1,185 +1,108 @@
 use denote.Ref.{now}
-use Prim.Native.Nat.{_-_}
+use Prim.Native.Nat.{ℕ, _-_}
 use native.Mathlib.Omega.{arith}
 use borrow.Author.Needs.{needs}
+use Rattle.patterns.specs.Component.{Component}
 use Rattle.reading.proofs.Gathering.{ComponentAt, component-at, component-bytes}
 use Rattle.reading.proofs.Gathering.{Gathering, gathering-start, gathering-room, gathering-next, gathering-refused, gathering-over, gathering-end}
 use Rattle.reading.proofs.read_components.Statement.{statement}
 use Rattle.reading.proofs.read_components.Tie as tie
 
 abbrev Inv-loop : tie.InvT-loop
-Inv-loop s at m left sizes₀ numbers₀ next₀ rest₀ i₀ sizes numbers next rest i = Gathering s sizes₀ numbers₀ at m left sizes numbers next rest i
+Inv-loop s at m left sizes₀ trees₀ next₀ rest₀ i₀ sizes trees next rest i = Gathering s sizes₀ trees₀ at m left sizes trees next rest i
 
 abbrev μ-loop : tie.MeasureT-loop
-μ-loop s at m left sizes₀ numbers₀ next₀ rest₀ i₀ sizes numbers next rest i = m - i
+μ-loop s at m left sizes₀ trees₀ next₀ rest₀ i₀ sizes trees next rest i = m - i
+
+-- The places: a turn of the loop, a component read in it, and its trees stored.
+abbrev Turn : Type 0
+Turn = tie.At-loop Inv-loop μ-loop
+
+abbrev Found : Type 0
+Found = tie.After-known-told Inv-loop μ-loop
+
+abbrev start : Turn → tie.Start Inv-loop μ-loop
+start c = c .before .before .before .before
+
+abbrev turn : Found → Turn
+turn c = c .before .before .before .before .before
+
+abbrev found : tie.After-slice-known3 Inv-loop μ-loop → Found
+found c = c .before .before .before .before .before
+
+-- where the component ends
+abbrev End : Found → ℕ
+End c = c .before .component .given .0 .0
+
+some-component : (c : Found) → (d : Component) × ComponentAt (now ((start (turn c)) .args .s)) ((turn c) .loop .next) ((turn c) .loop .rest) (End c) d
+some-component c =
+    let call = c .before .before .before .read-component in
+    component-at (now ((start (turn c)) .args .s)) ((turn c) .loop .next) ((turn c) .loop .rest) (End c) (call .result) (call .ensures) (c .before .component .given .1)
+
+component : (c : Found) → ComponentAt (now ((start (turn c)) .args .s)) ((turn c) .loop .next) ((turn c) .loop .rest) (End c) ((some-component c) .0)
+component c = (some-component c) .1
 
 loop-holds : tie.Need-loop-holds Inv-loop μ-loop
 loop-holds c =
     let a = c .before .before .before .args in
-    gathering-start (now (a .s)) (now (a .sizes)) (now (a .numbers)) (a .at) (a .m) (a .left)
-
-read-component-requires : tie.Need-read-component-requires Inv-loop μ-loop
-read-component-requires c κs = search needs
-
-enum-known-component : tie.Need-enum-known-component Inv-loop μ-loop
-enum-known-component c = search needs
-
-enum-told : tie.Need-enum-told Inv-loop μ-loop
-enum-told c = search needs
+    gathering-start (now (a .s)) (now (a .sizes)) (now (a .trees)) (a .at) (a .m) (a .left)
 
 same-length : tie.Need-same-length Inv-loop μ-loop
 same-length c = c .before .before .before .before .loop .inv .same-sizes
 
 same-length-2 : tie.Need-same-length-2 Inv-loop μ-loop
-same-length-2 c = c .before .before .before .before .loop .inv .same-numbers
+same-length-2 c = c .before .before .before .before .loop .inv .same-trees
 
 returns : tie.Need-returns Inv-loop μ-loop
 returns c =
-    let l = c .before .before .before .before .loop in
+    let here : Turn = c .before .before .before .before in
     let call = c .before .before .read-component in
     let refusal = c .enum-told .given in
-    gathering-refused (c .before .before .before .before .before .before .before .before .pre) (l .inv) (refusal .0 .0) (call .result) (omega arith) (call .ensures) (refusal .1)
+    gathering-refused ((start here) .pre) (here .loop .inv) (refusal .0 .0) (call .result) (omega arith) (call .ensures) (refusal .1)
 
 sub-points : tie.Need-sub-points Inv-loop μ-loop
-sub-points c =
-    let a = c .before .before .before .before .before .before .before .before .before .args in
-    let l = c .before .before .before .before .before .loop in
-    let call = c .before .before .before .read-component in
-    let component = c .before .component .given in
-    let g = component-at (now (a .s)) (l .next) (l .rest) (component .0 .0) (call .result) (call .ensures) (component .1) in
-    let p : ComponentAt (now (a .s)) (l .next) (l .rest) (component .0 .0) (g .0) = g .1 in
-    omega arith
+sub-points c = omega (arith, component c)
 
 sub-points-2 : tie.Need-sub-points-2 Inv-loop μ-loop
-sub-points-2 c =
-    let a = c .before .before .before .before .before .before .before .before .before .args in
-    let l = c .before .before .before .before .before .loop in
-    let call = c .before .before .before .read-component in
-    let component = c .before .component .given in
-    let g = component-at (now (a .s)) (l .next) (l .rest) (component .0 .0) (call .result) (call .ensures) (component .1) in
-    let p : ComponentAt (now (a .s)) (l .next) (l .rest) (component .0 .0) (g .0) = g .1 in
-    omega arith
+sub-points-2 c = omega (arith, component c)
 
 add-narrow : tie.Need-add-narrow Inv-loop μ-loop
-add-narrow c =
-    let a = c .before .before .before .before .before .before .before .before .before .args in
-    let l = c .before .before .before .before .before .loop in
-    let call = c .before .before .before .read-component in
-    let component = c .before .component .given in
-    let g = component-at (now (a .s)) (l .next) (l .rest) (component .0 .0) (call .result) (call .ensures) (component .1) in
-    let p : ComponentAt (now (a .s)) (l .next) (l .rest) (component .0 .0) (g .0) = g .1 in
-    omega arith
+add-narrow c = omega (arith, component c)
 
 mul-narrow : tie.Need-mul-narrow Inv-loop μ-loop
-mul-narrow c =
-    let a = c .before .before .before .before .before .before .before .before .before .args in
-    let l = c .before .before .before .before .before .loop in
-    let call = c .before .before .before .read-component in
-    let component = c .before .component .given in
-    let g = component-at (now (a .s)) (l .next) (l .rest) (component .0 .0) (call .result) (call .ensures) (component .1) in
-    let p : ComponentAt (now (a .s)) (l .next) (l .rest) (component .0 .0) (g .0) = g .1 in
-    omega arith
+mul-narrow c = omega (arith, component c)
 
 sub-narrow : tie.Need-sub-narrow Inv-loop μ-loop
-sub-narrow c =
-    let a = c .before .before .before .before .before .before .before .before .before .args in
-    let l = c .before .before .before .before .before .loop in
-    let call = c .before .before .before .read-component in
-    let component = c .before .component .given in
-    let g = component-at (now (a .s)) (l .next) (l .rest) (component .0 .0) (call .result) (call .ensures) (component .1) in
-    let p : ComponentAt (now (a .s)) (l .next) (l .rest) (component .0 .0) (g .0) = g .1 in
-    omega arith
+sub-narrow c = omega (arith, component c)
 
 part-narrow-start : tie.Need-part-narrow-start Inv-loop μ-loop
-part-narrow-start c =
-    let a = c .before .before .before .before .before .before .before .before .before .args in
-    let l = c .before .before .before .before .before .loop in
-    let call = c .before .before .before .read-component in
-    let component = c .before .component .given in
-    let g = component-at (now (a .s)) (l .next) (l .rest) (component .0 .0) (call .result) (call .ensures) (component .1) in
-    let p : ComponentAt (now (a .s)) (l .next) (l .rest) (component .0 .0) (g .0) = g .1 in
-    omega arith
+part-narrow-start c = omega (arith, component c)
 
 part-narrow-end : tie.Need-part-narrow-end Inv-loop μ-loop
-part-narrow-end c =
-    let a = c .before .before .before .before .before .before .before .before .before .args in
-    let l = c .before .before .before .before .before .loop in
-    let call = c .before .before .before .read-component in
-    let component = c .before .component .given in
-    let g = component-at (now (a .s)) (l .next) (l .rest) (component .0 .0) (call .result) (call .ensures) (component .1) in
-    let p : ComponentAt (now (a .s)) (l .next) (l .rest) (component .0 .0) (g .0) = g .1 in
-    omega arith
-
-sub-narrow-2 : tie.Need-sub-narrow-2 Inv-loop μ-loop
-sub-narrow-2 c = omega arith
+part-narrow-end c = omega (arith, component c)
 
 narrow-requires : tie.Need-narrow-requires Inv-loop μ-loop
 narrow-requires c κs =
-    let a = c .before .before .before .before .before .before .before .before .before .before .before .args in
-    let l = c .before .before .before .before .before .before .before .loop in
-    let call = c .before .before .before .before .before .read-component in
-    let component = c .before .before .before .component .given in
-    let g = component-at (now (a .s)) (l .next) (l .rest) (component .0 .0) (call .result) (call .ensures) (component .1) in
-    let p : ComponentAt (now (a .s)) (l .next) (l .rest) (component .0 .0) (g .0) = g .1 in
-    (gathering-room (c .before .before .before .before .before .before .before .before .before .before .before .pre) (l .inv) p, component-bytes p (omega arith))
+    let f : Found = c .before .before in
+    (gathering-room ((start (turn f)) .pre) ((turn f) .loop .inv) (component f), component-bytes (component f) (omega arith))
 
 cast-sizes : tie.Need-cast-sizes Inv-loop μ-loop
-cast-sizes c =
-    let a = c .before .before .before .before .before .before .before .before .before .before .before .before .before .before .args in
-    let l = c .before .before .before .before .before .before .before .before .before .before .loop in
-    let call = c .before .before .before .before .before .before .before .before .read-component in
-    let component = c .before .before .before .before .before .before .component .given in
-    let g = component-at (now (a .s)) (l .next) (l .rest) (component .0 .0) (call .result) (call .ensures) (component .1) in
-    let p : ComponentAt (now (a .s)) (l .next) (l .rest) (component .0 .0) (g .0) = g .1 in
-    omega arith
-
-slice-write-sizes : tie.Need-slice-write-sizes Inv-loop μ-loop
-slice-write-sizes c = omega arith
+cast-sizes c = omega (arith, component (found c))
 
 sub-rest : tie.Need-sub-rest Inv-loop μ-loop
-sub-rest c =
-    let a = c .before .before .before .before .before .before .before .before .before .before .before .before .before .before .args in
-    let l = c .before .before .before .before .before .before .before .before .before .before .loop in
-    let call = c .before .before .before .before .before .before .before .before .read-component in
-    let component = c .before .before .before .before .before .before .component .given in
-    let g = component-at (now (a .s)) (l .next) (l .rest) (component .0 .0) (call .result) (call .ensures) (component .1) in
-    let p : ComponentAt (now (a .s)) (l .next) (l .rest) (component .0 .0) (g .0) = g .1 in
-    omega arith
-
-add-i : tie.Need-add-i Inv-loop μ-loop
-add-i c = search needs
-
-loop-less : tie.Need-loop-less Inv-loop μ-loop
-loop-less c = search needs
+sub-rest c = omega (arith, component (found c))
 
 loop-again : tie.Need-loop-again Inv-loop μ-loop
 loop-again c =
-    let a = c .before .before .before .before .before .before .before .before .before .before .before .before .before .before .args in
-    let l = c .before .before .before .before .before .before .before .before .before .before .loop in
-    let call = c .before .before .before .before .before .before .before .before .read-component in
-    let component = c .before .before .before .before .before .before .component .given in
-    let g = component-at (now (a .s)) (l .next) (l .rest) (component .0 .0) (call .result) (call .ensures) (component .1) in
-    let p : ComponentAt (now (a .s)) (l .next) (l .rest) (component .0 .0) (g .0) = g .1 in
-    let h = c .before .before .before .before .before .before .before .before .before .before .before .before .before .before .pre in
-    rw (c .before .before .narrow .ensures) (gathering-next h (l .inv) (g .0) (component .0 .0) p (omega arith))
-
-same-length-3 : tie.Need-same-length-3 Inv-loop μ-loop
-same-length-3 c = c .before .before .loop .inv .same-sizes
-
-same-length-4 : tie.Need-same-length-4 Inv-loop μ-loop
-same-length-4 c = c .before .before .loop .inv .same-numbers
+    let f : Found = found c in
+    rw (c .before .before .narrow .ensures)
+    (gathering-next ((start (turn f)) .pre) ((turn f) .loop .inv) ((some-component f) .0) (End f) (component f) (omega arith))
 
 returns-2 : tie.Need-returns-2 Inv-loop μ-loop
-returns-2 c = gathering-over (c .before .before .before .before .before .before .pre) (c .before .before .loop .inv) (omega arith) (omega arith)
-
-same-length-5 : tie.Need-same-length-5 Inv-loop μ-loop
-same-length-5 c = c .before .before .loop .inv .same-sizes
-
-same-length-6 : tie.Need-same-length-6 Inv-loop μ-loop
-same-length-6 c = c .before .before .loop .inv .same-numbers
+returns-2 c = let here : Turn = c .before .before in gathering-over ((start here) .pre) (here .loop .inv) (omega arith) (omega arith)
 
 returns-3 : tie.Need-returns-3 Inv-loop μ-loop
-returns-3 c = gathering-end (c .before .before .before .before .before .before .pre) (c .before .before .loop .inv) (omega arith) (omega arith)
+returns-3 c = let here : Turn = c .before .before in gathering-end ((start here) .pre) (here .loop .inv) (omega arith) (omega arith)
 
 pub read-components-spec : {M : Type 1} → statement M
 read-components-spec =
@@ -188,9 +111,9 @@ read-components-spec =
     Inv-loop
     μ-loop
     loop-holds
-    read-component-requires
-    enum-known-component
-    enum-told
+    (λ c κs. search needs)
+    (λ c. search needs)
+    (λ c. search needs)
     same-length
     same-length-2
     returns
@@ -201,17 +124,17 @@ read-components-spec =
     sub-narrow
     part-narrow-start
     part-narrow-end
-    sub-narrow-2
+    (λ c. omega arith)
     narrow-requires
     cast-sizes
-    slice-write-sizes
+    (λ c. omega arith)
     sub-rest
-    add-i
-    loop-less
+    (λ c. search needs)
+    (λ c. search needs)
     loop-again
-    same-length-3
-    same-length-4
+    (λ c. c .before .before .loop .inv .same-sizes)
+    (λ c. c .before .before .loop .inv .same-trees)
     returns-2
-    same-length-5
-    same-length-6
+    (λ c. c .before .before .loop .inv .same-sizes)
+    (λ c. c .before .before .loop .inv .same-trees)
     returns-3)

@@ -1,0 +1,127 @@
+-- A code that was read and then tested: what the two parts say of the whole.
+use mathlib.Core.Path.{_≡_, refl, ap, ap₂, sym, _∙_}
+use mathlib.Core.Bool.{Bool, true, false, cond, _&&_, _||_}
+use mathlib.Core.List.{List, [], _∷_}
+use Prim.Native.Nat.{ℕ, _+_, _≤_}
+use native.Mathlib.Omega.{arith}
+use lib.Dec.{ltb, eqb}
+use lib.ListN.{length, take, drop, length-take}
+use Rattle.lists.specs.Select.{each}
+use Rattle.lists.proofs.Tests.{clash}
+use Rattle.patterns.specs.declared.Refusal.{Refusal}
+use Rattle.patterns.specs.declared.Refusal.the-variants.{Count, Sizes, NotCanonical}
+use Rattle.patterns.specs.Component.{nonempty}
+use Rattle.patterns.specs.System.{System, weight, canonical}
+use Rattle.patterns.specs.Reading.{Result, done, fault, andThen, cut, readComponents, finished, readBody, readSystem, accepted}
+use Rattle.memory.specs.Memory.{Holds, HeldSystem}
+use Rattle.reading.specs.declared.Accepted.{Accepted}
+use Rattle.reading.specs.declared.Accepted.the-variants.{System as Held, Refused as NotAccepted}
+use Rattle.reading.specs.Shape.{ended, shapeBody, shape, codeShape, acceptance, AcceptedInto}
+use Rattle.form_theory.proofs.Results.{good-done}
+use Rattle.reading.proofs.Sound.{code-sound}
+use Rattle.reading.proofs.Whole.{refused-into}
+use Rattle.memory.proofs.Parts.{held-count, held-points}
+
+-- the last check
+unfoldable checked : System → Result System
+unfolding canonical
+checked S =
+    let tested = canonical S in
+    cond tested (done S) (fault NotCanonical)
+
+-- The definition of reading is the shape, and then the last check.
+finished-checked : (S : System) (l : List ℕ) → finished S l ≡ andThen (ended S l) checked
+unfolding finished checked
+finished-checked S [] = refl
+finished-checked S (x ∷ l) = refl
+
+then-then : {A B C : Type 0} (r : Result A) (f : A → Result B) (g : B → Result C) → andThen (andThen r f) g ≡ andThen r (λ x. andThen (f x) g)
+then-then (done x) f g = refl
+then-then (fault c) f g = refl
+
+then-cond : {A B : Type 0} (b : Bool) (x y : Result A) (g : A → Result B) → andThen (cond b x y) g ≡ cond b (andThen x g) (andThen y g)
+then-cond true x y g = refl
+then-cond false x y g = refl
+
+same-results : {A B : Type 0} (r : Result A) (f g : A → Result B) → ((x : A) → f x ≡ g x) → andThen r f ≡ andThen r g
+same-results (done x) f g h = h x
+same-results (fault c) f g h = refl
+
+body-shape : (n : ℕ) (s : List ℕ) → readBody n s ≡ andThen (shapeBody n s) checked
+unfolding readBody shapeBody
+body-shape n [] = refl
+body-shape n (m ∷ s) =
+    ap (cond (ltb n m || (eqb m 0 && ltb 0 n)) (fault Sizes))
+    (same-results (readComponents m n s) _ _ (λ S. finished-checked S (drop (length S + weight S) s)) ∙ sym (then-then (readComponents m n s) _ checked))
+    ∙ sym (then-cond (ltb n m || (eqb m 0 && ltb 0 n)) (fault Sizes) _ checked)
+
+read-shape : (xs : List ℕ) → readSystem xs ≡ andThen (shape xs) checked
+unfolding readSystem shape
+read-shape [] = refl
+read-shape (n ∷ s) = ap (cond (ltb 200 n) (fault Count)) (body-shape n s) ∙ sym (then-cond (ltb 200 n) (fault Count) (shapeBody n s) checked)
+
+-- a code is accepted where its shape is in order and the system is canonical
+accepted-shape : (b : List ℕ) → accepted b ≡ andThen (codeShape b) checked
+unfolding accepted codeShape
+accepted-shape b = same-results (cut b) readSystem _ read-shape ∙ sym (then-then (cut b) shape checked)
+
+-- The system that a reply tells of.
+abbrev Told : Result System → ℕ → ℕ → List ℕ → List ℕ → Type 0
+Told o m n sizes trees = (S : System) × (o ≡ done S) × (length S ≡ m) × (weight S ≡ n) × Holds S (take m sizes) (take n trees)
+
+told : (o : Result System) (r : Accepted) (m n : ℕ) (sizes trees : List ℕ) → AcceptedInto o r sizes trees → r ≡ Held m n → Told o m n sizes trees
+told (done S) r m n sizes trees a e =
+    let q = sym e ∙ a .reply in
+    let u : m ≡ length S = cc in
+    let v : n ≡ weight S = cc in
+    (S, refl, sym u, sym v, rw (u, v) (a .held S refl))
+told (fault c) r m n sizes trees a e = let q = sym e ∙ a .reply in clash cc
+
+module _ (code : List ℕ) (r : Accepted) (sizes trees : List ℕ) (a : AcceptedInto (codeShape code) r sizes trees) where
+  -- refused for its shape
+  pub shape-refused : (c : Refusal) → r ≡ NotAccepted c → AcceptedInto (accepted code) r sizes trees
+  shape-refused c e =
+      rw e (refused-into (accepted code) c sizes trees (accepted-shape code ∙ ap (λ o. andThen o checked) (of (codeShape code) (sym e ∙ a .reply))))
+    where
+      of : (o : Result System) → NotAccepted c ≡ acceptance o → o ≡ fault c
+      of (done S) q = clash cc
+      of (fault d) q = let z : c ≡ d = cc in ap fault (sym z)
+
+  module _ (m n : ℕ) (e : r ≡ Held m n) where
+    system-told : Told (codeShape code) m n sizes trees
+    system-told = told (codeShape code) r m n sizes trees a e
+
+    -- the memory holds a system, in its first places
+    pub shape-held : HeldSystem (take m sizes) (take n trees)
+    shape-held =
+        let t = system-told in
+        let g = good-done (λ S. (each nonempty S ≡ true) × (weight S ≤ 200)) (codeShape code) (t .0) (t .1) (code-sound code) in
+        record { system = t .0; holds = t .4; each-nonempty = g .0; small = g .1 }
+
+    pub shape-within : (m ≤ length sizes) × (n ≤ length trees)
+    shape-within =
+        let t = system-told in (
+          omega (arith, held-count (t .4), length-take m sizes, t .2),
+          omega (arith, held-points (t .4), length-take n trees, t .3),
+        )
+
+    module _ (b : Bool) (f : (S : System) → Holds S (take m sizes) (take n trees) → b ≡ canonical S) where
+      tested : accepted code ≡ cond b (done (system-told .0)) (fault NotCanonical)
+      unfolding checked
+      tested =
+          let t = system-told in
+          accepted-shape code ∙ ap (λ o. andThen o checked) (t .1) ∙ ap (λ d. cond d (done (t .0)) (fault NotCanonical)) (sym (f (t .0) (t .4)))
+
+      -- not canonical
+      pub shape-unordered : b ≡ false → AcceptedInto (accepted code) (NotAccepted NotCanonical) sizes trees
+      shape-unordered q = refused-into (accepted code) NotCanonical sizes trees (tested ∙ rw q)
+
+      -- canonical
+      pub shape-accepted : b ≡ true → AcceptedInto (accepted code) (Held m n) sizes trees
+      shape-accepted q =
+          let t = system-told in
+          let o : accepted code ≡ done (t .0) = tested ∙ rw q in
+          record {
+            reply = ap₂ Held (sym (t .2)) (sym (t .3)) ∙ ap acceptance (sym o);
+            held = λ S z. a .held S (t .1 ∙ sym o ∙ z);
+          }

@@ -1,0 +1,2 @@
+-- The laws of accepting a code.
+pub mod Acceptance

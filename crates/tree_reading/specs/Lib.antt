@@ -1,0 +1,2 @@
+-- What the readers of trees and components mean.
+pub mod Walking
