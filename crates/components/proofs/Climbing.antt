@@ -14,7 +14,8 @@ use Rattle.patterns.specs.Tree.{Tree, point, merge, size, below, code, compareT
 use Rattle.patterns.specs.Component.{Component, points, flat, compareComponent}
 use Rattle.patterns.specs.Generation.{hasParent, parent, candidates}
 use Rattle.patterns.proofs.Trees.{size-positive, length-below, length-code, length-flat}
-use Rattle.components.specs.Held.{leadingPoints, Climbed}
+use Rattle.trees.specs.Beginnings.{leadingPoints}
+use Rattle.components.specs.Climbs.{Climbed}
 use Rattle.components.specs.declared.Climb.the-variants.{Key}
 use Rattle.component_theory.proofs.Lemma8.{lead-hasParent, parent-lead}
 use Rattle.component_theory.proofs.Keys.{ordered-kept, key-left, key-right}

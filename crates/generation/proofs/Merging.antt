@@ -10,8 +10,8 @@ use Rattle.lists.specs.Blocks.{exchanged}
 use Rattle.patterns.specs.Tree.{Tree, point, merge, size, below, code, compareTree, lastAtMost}
 use Rattle.patterns.specs.Component.{Component, flat}
 use Rattle.patterns.proofs.Trees.{size-positive, length-below, length-code}
-use Rattle.components.specs.Held.{lastStart}
-use Rattle.generation.specs.Step.{Pair}
+use Rattle.trees.specs.Beginnings.{lastStart}
+use Rattle.generation.specs.HeldNodes.{HeldNeighbours}
 
 -- i points are i ones
 pub flat-points : (i : ℕ) (c : Component) → flat (replicate i point ++ c) ≡ replicate i 1 ++ flat c
@@ -134,7 +134,7 @@ pub record Reach (s : List ℕ) (i : ℕ) (out : List ℕ) : Type 0 where
   pub small : length s ≤ 200
   pub room : length out ≡ length s
 
-pub reach : {s : List ℕ} {i : ℕ} {out : List ℕ} → Pair s i out → Reach s i out
+pub reach : {s : List ℕ} {i : ℕ} {out : List ℕ} → HeldNeighbours s i out → Reach s i out
 reach {s} {i} p =
     let n = this-size s i (p .this) (p .that) (p .after) (p .is) in
     let m = that-size s i (p .this) (p .that) (p .after) (p .is) in

@@ -1,13 +1,13 @@
 // Tables: marking cycles, the code of a map with its points beside it, and the map of a code.
 use bytes::copy;
-use components::at_most;
-use components::compare_generated;
 use components::has_least_rotation;
 use lists::Order;
 use lists::compare;
 use lists::exchange;
 use lists::set_all;
+use paths::compare_generated;
 use patterns::points_room;
+use trees::at_most;
 ghost use denote.Ref.{now};
 ghost use mathlib.Core.Path.{_≡_};
 ghost use mathlib.Core.Bool.{true, cond};

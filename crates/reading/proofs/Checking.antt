@@ -21,7 +21,7 @@ use Rattle.patterns.proofs.Rotations.{valid-parts}
 use Rattle.memory.specs.Memory.{Holds}
 use Rattle.reading.specs.Held.{Neighbours}
 use Rattle.memory.specs.Memory.{HeldSystem}
-use Rattle.components.specs.Held.{HeldPair}
+use Rattle.paths.specs.HeldPaths.{HeldPair}
 use Rattle.reading.proofs.Walking.{drop-one}
 
 -- What two lists hold is one system.

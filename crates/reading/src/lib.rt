@@ -1,7 +1,7 @@
 // Reading numbers into a system in memory [document 01, "Refusing"]: the shape of trees, components and the whole, left to right, the first fault deciding.
-use components::compare_generated;
 use components::valid_component;
 use lists::Order;
+use paths::compare_generated;
 use patterns::Refusal;
 use written::Cut;
 use written::cut_into;

@@ -1,9 +1,9 @@
 // A whole code in memory: the first one of n points, the step to the next, and the bytes of its written form.
 //
 // A system is two lent slices: `sizes`, the points of each component, and `numbers`, the flat components one after another.
-use components::count;
-use generation::successor;
 use lists::set_all;
+use succession::successor;
+use trees::count;
 use written::put_number;
 ghost use denote.Ref.{now};
 ghost use mathlib.Core.Path.{_≡_};
