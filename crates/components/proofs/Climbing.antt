@@ -46,6 +46,13 @@ led (merge t u ∷ c) i = record { left = t; right = u; rest = c; trees = refl }
 pub led-at : (s : List ℕ) (h : ℕ) (c : Component) → s ≡ flat c → h ≡ leadingPoints c → h < length s → Led c h
 led-at s h c e q k = rw q (led c (omega (arith, ap length e, length-flat c)))
 
+-- the merged tree at h has its last branch b numbers further: both parts have points, and both stand within the numbers
+pub record Cut (s : List ℕ) (h b : ℕ) : Type 0 where
+  pub left-some : 0 < b
+  pub right-some : 0 < getD s (h + b) 0
+  pub number : getD s h 0 ≡ b + getD s (h + b) 0
+  pub fits : h + getD s h 0 ≤ length s
+
 -- leading points are leading ones
 abbrev ones : ℕ → List ℕ
 ones h = replicate h 1
@@ -79,10 +86,11 @@ module _ {s : List ℕ} {h : ℕ} {c : Component} (v : Led c h) (e : s ≡ flat 
   pub led-number : getD s h 0 ≡ size t + size u
   led-number = ap (λ l. getD l h 0) whole ∙ getD-at (ones h) (size t + size u) (below (merge t u) ++ flat r) 0 h (length-ones h)
 
-  pub led-fits : h + (size t + size u) ≤ length s
+  pub led-fits : h + getD s h 0 ≤ length s
   led-fits =
       omega (
         arith,
+        led-number,
         ap length whole,
         length-append (ones h) (code (merge t u) ++ flat r),
         length-append (code (merge t u)) (flat r),
@@ -104,6 +112,17 @@ module _ {s : List ℕ} {h : ℕ} {c : Component} (v : Led c h) (e : s ≡ flat 
     led-second =
         ap (λ l. getD l (h + b) 0) parts
         ∙ getD-at (ones h ++ ((size t + size u) ∷ below t)) (size u) (below u ++ flat r) 0 (h + b) (front-length (size t + size u) ∙ ap (λ k. h + k) (sym q))
+
+    pub led-cut : Cut s h b
+    led-cut =
+        let t-some = size-positive t in
+        let u-some = size-positive u in
+        record {
+          left-some = omega (arith, q);
+          right-some = omega (arith, led-second);
+          number = omega (arith, led-number, led-second, q);
+          fits = led-fits;
+        }
 
     -- both parts, one after the other
     unmerged : set s h (getD s h 0 - getD s (h + b) 0) ≡ ones h ++ (code t ++ (code u ++ flat r))
