@@ -3,18 +3,20 @@
 use mathlib.Core.Path.{_≡_, refl, ap, ap₂, sym, _∙_}
 use mathlib.Core.Bool.{true, false}
 use mathlib.Core.List.{List, [], _∷_, _++_, append-assoc, append-nil}
-use Prim.Native.Nat.{ℕ, zero, suc, _+_, _-_, _≤_, _<_, compare}
+use Prim.Native.Nat.{ℕ, _+_, _-_, _≤_, _<_, compare}
 use native.Mathlib.Omega.{arith}
 use lib.ListN.{length, getD, set, take, drop, replicate, length-append, length-replicate, drop-of-length-le}
 use lib.Seq.{take-at, drop-at, getD-at, set-at, take-length}
 use Rattle.lists.specs.Order.{lex, atMost}
 use Rattle.lists.specs.Select.{place}
 use Rattle.lists.specs.Blocks.{exchanged}
+use Rattle.lists.proofs.Blocks.{exchanged-parts}
 use Rattle.patterns.specs.Tree.{Tree, point, merge, size, below, code, compareTree}
 use Rattle.patterns.specs.Component.{Component, points, flat, compareComponent}
 use Rattle.patterns.specs.Generation.{hasParent, parent, candidates}
 use Rattle.patterns.proofs.Trees.{size-positive, length-below, length-code, length-flat}
 use Rattle.trees.specs.Beginnings.{leadingPoints}
+use Rattle.trees.proofs.Walks.{flat-points}
 use Rattle.components.specs.Climbs.{Climbed}
 use Rattle.components.specs.declared.Climb.the-variants.{Key}
 use Rattle.component_theory.proofs.Lemma8.{lead-hasParent, parent-lead}
@@ -59,10 +61,6 @@ ones h = replicate h 1
 
 length-ones : (h : ℕ) → length (ones h) ≡ h
 length-ones h = length-replicate h 1
-
-flat-points : (h : ℕ) (c : Component) → flat (replicate h point ++ c) ≡ ones h ++ flat c
-flat-points zero c = refl
-flat-points (suc h) c = ap (λ l. 1 ∷ l) (flat-points h c)
 
 module _ {s : List ℕ} {h : ℕ} {c : Component} (v : Led c h) (e : s ≡ flat c) where
   abbrev t : Tree
@@ -175,19 +173,10 @@ module _ {s : List ℕ} {h : ℕ} {c : Component} (v : Led c h) (e : s ≡ flat 
     -- the blocks of the two parts change places
     swapped : exchanged h (h + b) (h + getD s h 0) after ≡ ones h ++ (code u ++ (code t ++ flat r))
     swapped =
-        let n = h + getD s h 0 in
-        let P = ones h in
-        let ends : length ((P ++ code t) ++ code u) ≡ n = omega (arith, length-append (P ++ code t) (code u), left-length, length-code u, led-number) in
-        let all : after ≡ ((P ++ code t) ++ code u) ++ flat r = regrouped ∙ sym (append-assoc (P ++ code t) (code u) (flat r)) in
-        let taken : take n after ≡ (P ++ code t) ++ code u = ap (take n) all ∙ take-at ((P ++ code t) ++ code u) (flat r) n ends in
-        let dropped : drop n after ≡ flat r = ap (drop n) all ∙ drop-at ((P ++ code t) ++ code u) (flat r) n ends in
-        let second : drop (h + b) (take n after) ≡ code u = ap (drop (h + b)) taken ∙ drop-at (P ++ code t) (code u) (h + b) left-length in
-        let first : drop h (take (h + b) after) ≡ code t =
-        ap (λ l. drop h (take (h + b) l)) regrouped
-        ∙ ap (drop h) (take-at (P ++ code t) (code u ++ flat r) (h + b) left-length)
-        ∙ drop-at P (code t) h (length-ones h) in
-        let front : take h after ≡ P = ap (take h) unmerged ∙ take-at P (code t ++ (code u ++ flat r)) h (length-ones h) in
-        ap₂ _++_ front (ap₂ _++_ second (ap₂ _++_ first dropped))
+        let e = h + getD s h 0 in
+        ap (λ l. exchanged h (h + b) e l) unmerged
+        ∙ exchanged-parts (ones h) (code t) (code u) (flat r) h (h + b) e (length-ones h) (omega (arith, length-code t))
+        (omega (arith, length-code u, led-number))
 
     -- the second part is the lesser: a right merge
     pub climbed-right : {k : ℕ} → atMost compareTree t u ≡ false → k ≡ length c → Climbed c (Key (k + h)) (exchanged h (h + b) (h + getD s h 0) after)

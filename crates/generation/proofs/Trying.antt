@@ -12,10 +12,11 @@ use Rattle.patterns.specs.Tree.{point, merge, code, compareTree, lastAtMost}
 use Rattle.patterns.specs.Component.{Component, flat}
 use Rattle.patterns.proofs.Trees.{flat-injective}
 use Rattle.trees.specs.Beginnings.{lastStart}
+use Rattle.trees.proofs.Walks.{lastStart-within}
 use Rattle.component_theory.proofs.Keys.{isLeast}
 use Rattle.component_theory.proofs.ChildPlaces.{childAt, childAt-left, childAt-right}
 use Rattle.generation.specs.HeldNodes.{HeldNeighbours, Gave}
-use Rattle.generation.proofs.Merging.{that-size, lastStart-within, this-stretch, that-stretch, last-stretch, last-branch-atMost}
+use Rattle.generation.proofs.Merging.{that-size, this-stretch, that-stretch, last-stretch, last-branch-atMost}
 
 -- a candidate that passes is given
 pub gave-candidate : (b : Bool) (d : Component) (r : Bool) (x : List ℕ) → r ≡ b → (b ≡ true → x ≡ flat d) → Gave (first (cond b (d ∷ []) [])) r x

@@ -219,8 +219,3 @@ module _ {s : List ℕ} (m : ℕ) (counted : (c : Component) → s ≡ flat c �
 
 pub child-node : (c : Component) (r : Bool) (y : List ℕ) → Gave (firstChild c) r y → r ≡ true → length y ≤ 200 → Node y
 child-node c r y g e l = gave-node (firstChild c) y (subst (λ q. Gave (firstChild c) q y) e g) (firstChild-valid c) l
-
--- what is given for the successor is what follows in the generation list
-pub gave-follows : (c : Component) → validComponent c ≡ true → (r : Bool) (x : List ℕ)
-    → Gave (successor c) r x → Gave (next compareComponent c (generation (points c))) r x
-gave-follows c v r x g = gave-path (sym (successor-is c v)) r x g

@@ -3,9 +3,9 @@
 use mathlib.Core.Path.{_≡_, refl, ap, sym, _∙_, subst}
 use mathlib.Core.Bool.{true, false}
 use mathlib.Core.List.{List, [], _∷_, _++_, append-assoc, append-nil}
-use Prim.Native.Nat.{ℕ, suc, _+_, _-_, _≤_, _<_, compare}
+use Prim.Native.Nat.{ℕ, zero, suc, _+_, _-_, _≤_, _<_, compare}
 use native.Mathlib.Omega.{arith}
-use lib.ListN.{length, getD, take, drop, length-append}
+use lib.ListN.{length, getD, take, drop, replicate, length-append}
 use lib.Seq.{take-at, drop-at, getD-at}
 use Rattle.lists.specs.Order.{lex, atMost}
 use Rattle.lists.specs.Select.{each}
@@ -46,6 +46,11 @@ pub next-stretch : {s : List ℕ} {at : ℕ} {rest : Component} (n : Next s at r
 next-stretch {s} {at} n =
     let q : at + getD s at 0 - at ≡ size (n .tree) = omega (arith, n .number) in
     ap (λ k. take k (drop at s)) q ∙ n .stretch
+
+-- points are ones
+pub flat-points : (i : ℕ) (c : Component) → flat (replicate i point ++ c) ≡ replicate i 1 ++ flat c
+flat-points zero c = refl
+flat-points (suc i) c = ap (λ l. 1 ∷ l) (flat-points i c)
 
 -- no numbers, no trees
 pub no-trees : (c : Component) → points c ≡ 0 → c ≡ []
@@ -186,9 +191,9 @@ last-stretch s last at (merge t v) rest u e h k =
     ap (λ l. atMost (lex compare) l (code u)) q
 
 -- Valid trees: the walk stops where a branch is invalid or less than the one before it.
-pub last-within : (t : Tree) → lastStart t ≤ size t
-last-within point = omega arith
-last-within (merge t u) = omega arith
+pub lastStart-within : (t : Tree) → lastStart t ≤ size t
+lastStart-within point = omega arith
+lastStart-within (merge t u) = omega arith
 
 pub merge-invalid : (t u : Tree) → validTree u ≡ false → validTree (merge t u) ≡ false
 merge-invalid t u e = is-false (validTree (merge t u)) (λ v. no-both ((valid-merge t u v) .1) e)
@@ -198,7 +203,7 @@ merge-unordered t u e = is-false (validTree (merge t u)) (λ v. no-both ((valid-
 
 module _ {s : List ℕ} {last at : ℕ} {P : Tree → Type 0} (w : Inside s last at P) where
   pub inside-last : last ≤ at
-  inside-last = omega (arith, last-within (w .had), w .place, w .from)
+  inside-last = omega (arith, lastStart-within (w .had), w .place, w .from)
 
   -- comparing the branch before the place with the branch at it
   pub inside-order : (n : Next s at (w .rest))

@@ -1,19 +1,21 @@
 use denote.Ref.{now}
 use mathlib.Core.Path.{_≡_, refl, sym, ap, _∙_}
 use mathlib.Core.Bool.{true}
-use Prim.Native.Nat.{ℕ, _-_, _<_}
+use mathlib.Core.List.{List}
+use Prim.Native.Nat.{ℕ, _-_, _≤_, _<_}
 use native.Mathlib.Omega.{arith}
 use borrow.Author.Needs.{needs}
 use borrow.Fn.PlainCycle.{Measures, is, falls, and}
+use borrow.Fn.Kinds.{In}
 use lib.ListN.{length}
 use Rattle.lists.proofs.Tests.{not-of-true, not-of-false}
-use Rattle.patterns.specs.Tree.{validTree}
+use Rattle.patterns.specs.Tree.{Tree, validTree, lastAtMost}
 use Rattle.patterns.proofs.Trees.{merge-valid, length-code, size-positive}
-use Rattle.trees.proofs.Walks.{Inside, inside-start, inside-next, inside-step, inside-end, inside-last, inside-order, inside-fails, merge-invalid, merge-unordered, next-stretch}
-use borrow.Fn.Kinds.{In}
+use Rattle.memory.specs.Memory.{HeldTree}
+use Rattle.trees.proofs.Walks.{Inside, Next, inside-start, inside-next, inside-step, inside-end, inside-last, inside-order, inside-fails, merge-invalid, merge-unordered, next-stretch}
 use Rattle.trees.proofs.valid_tree.Reads as valid-tree
 use Rattle.trees.proofs.valid_tree.Kinds as valid-tree-kinds
-use Rattle.trees.proofs.+valid_tree.Lts-valid_tree as valid-tree-lts
+use Rattle.trees.proofs.+valid_tree.Lts-valid_tree as lts
 use Rattle.trees.proofs.at_most.Reads as at-most-reads
 use Rattle.trees.proofs.+valid_tree.{statement}
 use Rattle.trees.proofs.+valid_tree.Tie.{close}
@@ -29,227 +31,57 @@ abbrev valid-tree-below : ℕ → In 1 valid-tree-kinds.ps
 valid-tree-below t =
     and 1 valid-tree-kinds.ps (falls 1 valid-tree-kinds.ps _<_ μ-valid-tree t) valid-tree.Pre
 
-abbrev valid-tree-Inv-loop : valid-tree-lts.InvT-loop
-valid-tree-Inv-loop s last₀ at₀ last at = Inside s last at (λ t. validTree t ≡ true)
+abbrev Valid : Tree → Type 0
+Valid t = validTree t ≡ true
 
-abbrev valid-tree-μ-loop : valid-tree-lts.MeasureT-loop
-valid-tree-μ-loop s last₀ at₀ last at = length s - at
+abbrev Inv-loop : lts.InvT-loop
+Inv-loop s last₀ at₀ last at = Inside s last at Valid
 
-valid-tree-loop-holds : (t : ℕ) → valid-tree-lts.Need-loop-holds (
-  valid-tree-below t,
-  valid-tree.Post,
-  at-most-reads.Asked,
-  at-most-reads.Learnt,
-) (valid-tree-at t) valid-tree.Post valid-tree-Inv-loop valid-tree-μ-loop
+abbrev μ-loop : lts.MeasureT-loop
+μ-loop s last₀ at₀ last at = length s - at
+
+begun : {s : List ℕ} → HeldTree s → Inside s 1 1 Valid
 unfolding validTree
-valid-tree-loop-holds t c = inside-start (c .before .pre .1) (λ t. validTree t ≡ true) refl
+begun h = inside-start h Valid refl
 
-valid-tree-shared-slice-read-end : (t : ℕ) → valid-tree-lts.Need-shared-slice-read-end (
-  valid-tree-below t,
-  valid-tree.Post,
-  at-most-reads.Asked,
-  at-most-reads.Learnt,
-) (valid-tree-at t) valid-tree.Post valid-tree-Inv-loop valid-tree-μ-loop
-valid-tree-shared-slice-read-end t c = search needs
+-- a turn of the loop, after the branch at the place has been tested, and after it has been compared with the one before
+abbrev Turn : ℕ → Type 0
+Turn t = lts.In-loop (valid-tree-below t, valid-tree.Post, at-most-reads.Asked, at-most-reads.Learnt) (valid-tree-at t) valid-tree.Post Inv-loop μ-loop
 
-valid-tree-cast-end : (t : ℕ) → valid-tree-lts.Need-cast-end (
-  valid-tree-below t,
-  valid-tree.Post,
-  at-most-reads.Asked,
-  at-most-reads.Learnt,
-) (valid-tree-at t) valid-tree.Post valid-tree-Inv-loop valid-tree-μ-loop
-valid-tree-cast-end t c = omega (arith, c .shared-slice-known2 .given (c .before .before .loop .at))
+abbrev Tested : ℕ → Type 0
+Tested t = lts.After-valid-tree (valid-tree-below t, valid-tree.Post, at-most-reads.Asked, at-most-reads.Learnt) (valid-tree-at t) valid-tree.Post Inv-loop μ-loop
 
-valid-tree-add-end : (t : ℕ) → valid-tree-lts.Need-add-end (
-  valid-tree-below t,
-  valid-tree.Post,
-  at-most-reads.Asked,
-  at-most-reads.Learnt,
-) (valid-tree-at t) valid-tree.Post valid-tree-Inv-loop valid-tree-μ-loop
-valid-tree-add-end t c =
-    let n = inside-next (c .before .before .loop .inv) (omega arith) in
-    omega arith
+abbrev Compared : ℕ → Type 0
+Compared t = lts.After-at-most (valid-tree-below t, valid-tree.Post, at-most-reads.Asked, at-most-reads.Learnt) (valid-tree-at t) valid-tree.Post Inv-loop μ-loop
 
-valid-tree-sub-valid-tree : (t : ℕ) → valid-tree-lts.Need-sub-valid-tree (
-  valid-tree-below t,
-  valid-tree.Post,
-  at-most-reads.Asked,
-  at-most-reads.Learnt,
-) (valid-tree-at t) valid-tree.Post valid-tree-Inv-loop valid-tree-μ-loop
-valid-tree-sub-valid-tree t c = search needs
+abbrev turn : {t : ℕ} → Tested t → Turn t
+turn c = c .before .before .before
 
-valid-tree-part-valid-tree-start : (t : ℕ) → valid-tree-lts.Need-part-valid-tree-start (
-  valid-tree-below t,
-  valid-tree.Post,
-  at-most-reads.Asked,
-  at-most-reads.Learnt,
-) (valid-tree-at t) valid-tree.Post valid-tree-Inv-loop valid-tree-μ-loop
-valid-tree-part-valid-tree-start t c = search needs
+abbrev tested : {t : ℕ} → Compared t → Tested t
+tested c = c .before .before .before .before
 
-valid-tree-part-valid-tree-end : (t : ℕ) → valid-tree-lts.Need-part-valid-tree-end (
-  valid-tree-below t,
-  valid-tree.Post,
-  at-most-reads.Asked,
-  at-most-reads.Learnt,
-) (valid-tree-at t) valid-tree.Post valid-tree-Inv-loop valid-tree-μ-loop
-valid-tree-part-valid-tree-end t c =
-    let n = inside-next (c .before .before .loop .inv) (omega arith) in
-    omega arith
+module _ {t : ℕ} where
+  abbrev S : Turn t → List ℕ
+  S c = now (c .before .before .before .args .s)
 
-valid-tree-valid-tree-requires : (t : ℕ) → valid-tree-lts.Need-valid-tree-requires (
-  valid-tree-below t,
-  valid-tree.Post,
-  at-most-reads.Asked,
-  at-most-reads.Learnt,
-) (valid-tree-at t) valid-tree.Post valid-tree-Inv-loop valid-tree-μ-loop
-valid-tree-valid-tree-requires t c κs =
-    let w = c .before .before .before .loop .inv in
-    let n = inside-next w (omega arith) in
-    (rw (next-stretch n, length-code (n .tree)) (omega (arith, size-positive (w .had))), record { tree = n .tree; is = next-stretch n })
+  abbrev W : (c : Turn t) → Inside (S c) (c .before .loop .last) (c .before .loop .at) Valid
+  W c = c .before .loop .inv
 
-valid-tree-returns : (t : ℕ) → valid-tree-lts.Need-returns (
-  valid-tree-below t,
-  valid-tree.Post,
-  at-most-reads.Asked,
-  at-most-reads.Learnt,
-) (valid-tree-at t) valid-tree.Post valid-tree-Inv-loop valid-tree-μ-loop
-valid-tree-returns t c =
-    let w = c .before .before .before .before .before .loop .inv in
-    let n = inside-next w (omega arith) in
-    let r = c .before .valid-tree in
-    let f = not-of-true (r .result) (c .if1 .taken) in
-    λ u e. inside-fails w n (merge-invalid (w .had) (n .tree) (sym (r .ensures (n .tree) (next-stretch n)) ∙ f)) u e
+  here : (c : Turn t) → Next (S c) (c .before .loop .at) (W c .rest)
+  here c = inside-next (W c) (omega arith)
 
-valid-tree-sub-at-most : (t : ℕ) → valid-tree-lts.Need-sub-at-most (
-  valid-tree-below t,
-  valid-tree.Post,
-  at-most-reads.Asked,
-  at-most-reads.Learnt,
-) (valid-tree-at t) valid-tree.Post valid-tree-Inv-loop valid-tree-μ-loop
-valid-tree-sub-at-most t c =
-    let w = c .before .before .before .before .before .loop .inv in
-    let n = inside-next w (omega arith) in
-    let l = inside-last w in
-    omega arith
+  last-first : (c : Turn t) → c .before .loop .last ≤ c .before .loop .at
+  last-first c = inside-last (W c)
 
-valid-tree-part-at-most-start : (t : ℕ) → valid-tree-lts.Need-part-at-most-start (
-  valid-tree-below t,
-  valid-tree.Post,
-  at-most-reads.Asked,
-  at-most-reads.Learnt,
-) (valid-tree-at t) valid-tree.Post valid-tree-Inv-loop valid-tree-μ-loop
-valid-tree-part-at-most-start t c =
-    let w = c .before .before .before .before .before .loop .inv in
-    let n = inside-next w (omega arith) in
-    let l = inside-last w in
-    omega arith
+  -- the two answers
+  valid : (c : Tested t) → c .valid-tree .result ≡ validTree (here (turn c) .tree)
+  valid c = let n = here (turn c) in c .valid-tree .ensures (n .tree) (next-stretch n)
 
-valid-tree-part-at-most-end : (t : ℕ) → valid-tree-lts.Need-part-at-most-end (
-  valid-tree-below t,
-  valid-tree.Post,
-  at-most-reads.Asked,
-  at-most-reads.Learnt,
-) (valid-tree-at t) valid-tree.Post valid-tree-Inv-loop valid-tree-μ-loop
-valid-tree-part-at-most-end t c =
-    let w = c .before .before .before .before .before .loop .inv in
-    let n = inside-next w (omega arith) in
-    let l = inside-last w in
-    omega arith
-
-valid-tree-sub-at-most-2 : (t : ℕ) → valid-tree-lts.Need-sub-at-most-2 (
-  valid-tree-below t,
-  valid-tree.Post,
-  at-most-reads.Asked,
-  at-most-reads.Learnt,
-) (valid-tree-at t) valid-tree.Post valid-tree-Inv-loop valid-tree-μ-loop
-valid-tree-sub-at-most-2 t c =
-    let w = c .before .before .before .before .before .before .loop .inv in
-    let n = inside-next w (omega arith) in
-    let l = inside-last w in
-    omega arith
-
-valid-tree-part-at-most-start-2 : (t : ℕ) → valid-tree-lts.Need-part-at-most-start-2 (
-  valid-tree-below t,
-  valid-tree.Post,
-  at-most-reads.Asked,
-  at-most-reads.Learnt,
-) (valid-tree-at t) valid-tree.Post valid-tree-Inv-loop valid-tree-μ-loop
-valid-tree-part-at-most-start-2 t c =
-    let w = c .before .before .before .before .before .before .loop .inv in
-    let n = inside-next w (omega arith) in
-    let l = inside-last w in
-    omega arith
-
-valid-tree-part-at-most-end-2 : (t : ℕ) → valid-tree-lts.Need-part-at-most-end-2 (
-  valid-tree-below t,
-  valid-tree.Post,
-  at-most-reads.Asked,
-  at-most-reads.Learnt,
-) (valid-tree-at t) valid-tree.Post valid-tree-Inv-loop valid-tree-μ-loop
-valid-tree-part-at-most-end-2 t c =
-    let w = c .before .before .before .before .before .before .loop .inv in
-    let n = inside-next w (omega arith) in
-    let l = inside-last w in
-    omega arith
-
-valid-tree-at-most-requires : (t : ℕ) → valid-tree-lts.Need-at-most-requires (
-  valid-tree-below t,
-  valid-tree.Post,
-  at-most-reads.Asked,
-  at-most-reads.Learnt,
-) (valid-tree-at t) valid-tree.Post valid-tree-Inv-loop valid-tree-μ-loop
-valid-tree-at-most-requires t c κs = search needs
-
-valid-tree-returns-2 : (t : ℕ) → valid-tree-lts.Need-returns-2 (
-  valid-tree-below t,
-  valid-tree.Post,
-  at-most-reads.Asked,
-  at-most-reads.Learnt,
-) (valid-tree-at t) valid-tree.Post valid-tree-Inv-loop valid-tree-μ-loop
-valid-tree-returns-2 t c =
-    let w = c .before .before .before .before .before .before .before .before .before .loop .inv in
-    let n = inside-next w (omega arith) in
-    let r = c .before .at-most in
-    let f = not-of-true (r .result) (c .if2 .taken) in
-    λ u e. inside-fails w n (merge-unordered (w .had) (n .tree) (sym (inside-order w n) ∙ sym (r .ensures) ∙ f)) u e
-
-valid-tree-loop-less : (t : ℕ) → valid-tree-lts.Need-loop-less (
-  valid-tree-below t,
-  valid-tree.Post,
-  at-most-reads.Asked,
-  at-most-reads.Learnt,
-) (valid-tree-at t) valid-tree.Post valid-tree-Inv-loop valid-tree-μ-loop
-valid-tree-loop-less t c =
-    let n = inside-next (c .before .before .before .before .before .before .before .before .before .loop .inv) (omega arith) in
-    omega arith
-
-valid-tree-loop-again : (t : ℕ) → valid-tree-lts.Need-loop-again (
-  valid-tree-below t,
-  valid-tree.Post,
-  at-most-reads.Asked,
-  at-most-reads.Learnt,
-) (valid-tree-at t) valid-tree.Post valid-tree-Inv-loop valid-tree-μ-loop
-valid-tree-loop-again t c =
-    let w = c .before .before .before .before .before .before .before .before .before .loop .inv in
-    let n = inside-next w (omega arith) in
-    let r = c .before .at-most in
-    let r′ = c .before .before .before .before .before .valid-tree in
-    inside-step w n (merge-valid (w .had) (n .tree) (w .kept)
-    (sym (r′ .ensures (n .tree) (next-stretch n)) ∙ not-of-false (r′ .result) (c .before .before .before .before .if1 .left))
-    (sym (inside-order w n) ∙ sym (r .ensures) ∙ not-of-false (r .result) (c .if2 .left)))
-
-valid-tree-returns-3 : (t : ℕ) → valid-tree-lts.Need-returns-3 (
-  valid-tree-below t,
-  valid-tree.Post,
-  at-most-reads.Asked,
-  at-most-reads.Learnt,
-) (valid-tree-at t) valid-tree.Post valid-tree-Inv-loop valid-tree-μ-loop
-valid-tree-returns-3 t c =
-    let w = c .before .loop .inv in
-    λ u e. sym (sym (ap validTree (inside-end w (omega arith) u e)) ∙ w .kept)
+  ordered : (c : Compared t) → let i = turn (tested c) in c .at-most .result ≡ lastAtMost (W i .had) (here i .tree)
+  ordered c = let i = turn (tested c) in c .at-most .ensures ∙ inside-order (W i) (here i)
 
 pub +valid-tree-spec : {M : Type 1} → statement M
-+valid-tree-spec = close μ-valid-tree λ t. valid-tree-lts.spec (
++valid-tree-spec = close μ-valid-tree λ t. lts.spec (
   valid-tree-below t,
   valid-tree.Post,
   at-most-reads.Asked,
@@ -257,25 +89,41 @@ pub +valid-tree-spec : {M : Type 1} → statement M
 )
     (valid-tree-at t)
     valid-tree.Post
-    valid-tree-Inv-loop
-    valid-tree-μ-loop
-    (valid-tree-loop-holds t)
-    (valid-tree-shared-slice-read-end t)
-    (valid-tree-cast-end t)
-    (valid-tree-add-end t)
-    (valid-tree-sub-valid-tree t)
-    (valid-tree-part-valid-tree-start t)
-    (valid-tree-part-valid-tree-end t)
-    (valid-tree-valid-tree-requires t)
-    (valid-tree-returns t)
-    (valid-tree-sub-at-most t)
-    (valid-tree-part-at-most-start t)
-    (valid-tree-part-at-most-end t)
-    (valid-tree-sub-at-most-2 t)
-    (valid-tree-part-at-most-start-2 t)
-    (valid-tree-part-at-most-end-2 t)
-    (valid-tree-at-most-requires t)
-    (valid-tree-returns-2 t)
-    (valid-tree-loop-less t)
-    (valid-tree-loop-again t)
-    (valid-tree-returns-3 t)
+    Inv-loop
+    μ-loop
+    (λ c. begun (c .before .pre .1))
+    (λ c. search needs)
+    (λ c. omega (arith, c .shared-slice-known2 .given (c .before .before .loop .at)))
+    (λ c. omega (arith, here (c .before)))
+    (λ c. search needs)
+    (λ c. search needs)
+    (λ c. omega (arith, here (c .before)))
+    (λ c κs.
+    let i = c .before .before in
+    let n = here i in
+    (rw (next-stretch n, length-code (n .tree)) (omega (arith, size-positive (W i .had))), record { tree = n .tree; is = next-stretch n }))
+    (λ c.
+    let i = turn (c .before) in
+    let f = sym (valid (c .before)) ∙ not-of-true (c .before .valid-tree .result) (c .if1 .taken) in
+    λ u e. inside-fails (W i) (here i) (merge-invalid (W i .had) (here i .tree) f) u e)
+    (λ c. omega (arith, here (turn (c .before)), last-first (turn (c .before))))
+    (λ c. omega (arith, here (turn (c .before)), last-first (turn (c .before))))
+    (λ c. omega (arith, here (turn (c .before)), last-first (turn (c .before))))
+    (λ c. omega (arith, here (turn (c .before .before)), last-first (turn (c .before .before))))
+    (λ c. omega (arith, here (turn (c .before .before)), last-first (turn (c .before .before))))
+    (λ c. omega (arith, here (turn (c .before .before)), last-first (turn (c .before .before))))
+    (λ c κs. search needs)
+    (λ c.
+    let i = turn (tested (c .before)) in
+    let f = sym (ordered (c .before)) ∙ not-of-true (c .before .at-most .result) (c .if2 .taken) in
+    λ u e. inside-fails (W i) (here i) (merge-unordered (W i .had) (here i .tree) f) u e)
+    (λ c. omega (arith, here (turn (tested (c .before)))))
+    (λ c.
+    let test = tested (c .before) in
+    let i = turn test in
+    inside-step (W i) (here i) (merge-valid (W i .had) (here i .tree) (W i .kept)
+    (sym (valid test) ∙ not-of-false (test .valid-tree .result) (c .before .before .before .before .if1 .left))
+    (sym (ordered (c .before)) ∙ not-of-false (c .before .at-most .result) (c .if2 .left))))
+    (λ c.
+    let w = c .before .loop .inv in
+    λ u e. sym (sym (ap validTree (inside-end w (omega arith) u e)) ∙ w .kept))
