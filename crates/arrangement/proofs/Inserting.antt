@@ -12,7 +12,13 @@ use Rattle.lists.proofs.Tests.{by-test}
 use Rattle.patterns.specs.Tree.{Tree, size, code, compareTree}
 use Rattle.patterns.specs.Component.{Component, points, flat}
 use Rattle.patterns.proofs.Trees.{points-append, length-flat, length-code}
-use Rattle.components.proofs.Walks.{Along, Next, along-step, along-whole, along-end, along-length}
+use Rattle.trees.proofs.Walks.{Along, Next, along-step, along-whole, along-end, along-length}
+use Rattle.memory.specs.Memory.{Stands}
+use Rattle.map_theory.specs.Plants.{Plant, shape, comparePlant}
+use Rattle.arrangement.specs.Arrangement.{Planted, pointsBefore}
+use Rattle.memory.proofs.Standing.{stands-left, stands-right, stands-path, stands-at, stands-part}
+use Rattle.arrangement.proofs.Planting.{points-plants, flat-plants, planted-exchanged, planted-stands}
+use Rattle.trees.proofs.Walks.{Along, Next, along-step, along-whole, along-end, along-length}
 use Rattle.memory.specs.Memory.{Stands}
 use Rattle.map_theory.specs.Plants.{Plant, shape, comparePlant}
 use Rattle.arrangement.specs.Arrangement.{Planted, pointsBefore}

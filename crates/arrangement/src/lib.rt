@@ -1,6 +1,6 @@
 // Putting trees and components in their places: sorted in among others, and turned to their least rotation, the labels with them.
-use components::at_most;
-use components::compare_generated;
+use trees::at_most;
+use paths::compare_generated;
 use components::has_least_rotation;
 use lists::Order;
 use lists::compare;

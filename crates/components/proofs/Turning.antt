@@ -16,7 +16,7 @@ use Rattle.patterns.specs.Component.{Component, points, flat, rotations, compar
 use Rattle.patterns.proofs.Trees.{length-flat, flat-append, compareComponent-flat}
 use Rattle.patterns.proofs.Rotations.{valid-trees}
 use Rattle.component_theory.proofs.Keys.{valid-if-least}
-use Rattle.components.proofs.Walks.{no-trees}
+use Rattle.trees.proofs.Walks.{no-trees}
 
 -- Numbers.
 

@@ -1,11 +1,11 @@
 -- The first component of a system in memory gives way to its successor, and the components to the right of it are filled in.
 use mathlib.Core.Path.{_≡_, refl, ap, ap₂, sym, _∙_}
 use mathlib.Core.Bool.{Bool, true, false, not, true≢false}
-use mathlib.Core.List.{List, [], _∷_, _++_, map, head-eq-of-cons-eq}
+use mathlib.Core.List.{List, _∷_, _++_, map, head-eq-of-cons-eq}
 use mathlib.Core.Option.{Option, none, some}
 use Prim.Native.Nat.{ℕ, _≤_, _<_}
 use native.Mathlib.Omega.{arith}
-use lib.ListN.{length, take, drop, getD, length-append}
+use lib.ListN.{length, take, getD, length-append}
 use lib.Seq.{take-at, length-take-le}
 use Rattle.lists.specs.Select.{gather}
 use Rattle.lists.proofs.Permute.{total-map}
@@ -14,7 +14,9 @@ use Rattle.patterns.specs.System.{System}
 use Rattle.patterns.proofs.Trees.{length-flat}
 use Rattle.component_theory.specs.Successor.{successor}
 use Rattle.component_theory.proofs.Successor.{successor-valid}
-use Rattle.generation.specs.Step.{Node, Gave}
+use Rattle.generation.specs.HeldNodes.{Node, Gave}
+use Rattle.system_theory.specs.Step.{fills}
+use Rattle.generation.specs.HeldNodes.{Node, Gave}
 use Rattle.system_theory.specs.Step.{fills}
 use Rattle.memory.specs.Memory.{Holds}
 use Rattle.systems.specs.Held.{sum, fillNumbers, HeldAhead, Advanced}

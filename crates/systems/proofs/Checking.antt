@@ -3,7 +3,7 @@ use mathlib.Core.Path.{_≡_, refl, ap, sym, _∙_}
 use mathlib.Core.Logic.{_⊎_, inl, inr}
 use mathlib.Core.Bool.{true, false, _&&_, true≢false}
 use mathlib.Core.List.{List, [], _∷_}
-use Prim.Native.Nat.{ℕ, suc, _+_, _-_, _≤_, _<_}
+use Prim.Native.Nat.{ℕ, _+_, _-_, _≤_, _<_}
 use native.Mathlib.Numerals.{add-one}
 use native.Mathlib.Omega.{arith}
 use lib.ListN.{length, take, drop, getD, drop-of-length-le}
@@ -14,7 +14,7 @@ use Rattle.patterns.specs.System.{System, weight, compareGenerated, inOrder, ca
 use Rattle.patterns.proofs.Trees.{size-positive, length-flat}
 use Rattle.patterns.proofs.Rotations.{valid-parts}
 use Rattle.memory.specs.Memory.{Held, Holds, HeldSystem}
-use Rattle.components.specs.Held.{HeldPair}
+use Rattle.paths.specs.HeldPaths.{HeldPair}
 use Rattle.memory.proofs.Parts.{held-count, held-points, held-size, held-fits, held-part, held-next, held-unique}
 
 -- a valid component has a point

@@ -1,10 +1,10 @@
 -- Writing numbers, components and whole systems into a lent output, one after another.
 use mathlib.Core.Path.{_≡_, refl, ap, sym, _∙_}
-use mathlib.Core.List.{List, [], _∷_, _++_, append-nil, append-assoc}
-use Prim.Native.Nat.{ℕ, zero, suc, _+_, _-_, _*_, _≤_, _<_}
+use mathlib.Core.List.{List, [], _∷_, _++_, append-nil}
+use Prim.Native.Nat.{ℕ, suc, _+_, _-_, _*_, _≤_, _<_}
 use native.Mathlib.Numerals.{add-one}
 use native.Mathlib.Omega.{arith}
-use lib.ListN.{length, take, drop, getD, length-append, length-take}
+use lib.ListN.{length, take, drop, getD, length-take}
 use lib.Seq.{take-suc, take-all, take-at, length-take-le}
 use Rattle.lists.specs.Select.{gather}
 use Rattle.patterns.specs.Component.{Component, points, flat}
@@ -12,7 +12,7 @@ use Rattle.patterns.specs.System.{System, weight}
 use Rattle.patterns.specs.Written.{componentNumbers, numbers as numbersOf, writeNumber, bytes, written}
 use Rattle.patterns.proofs.Trees.{length-flat}
 use Rattle.component_theory.proofs.Generation.{length-points}
-use Rattle.written.specs.Putting.{placed, Placed}
+use Rattle.written.specs.Putting.{Placed}
 use Rattle.written.proofs.Placing.{placed-length, placed-start, placed-then}
 use Rattle.memory.specs.Memory.{Holds}
 use Rattle.systems.specs.Held.{Wrote, HeldRoom, HeldWritable}

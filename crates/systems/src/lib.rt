@@ -1,10 +1,10 @@
 // A whole code in memory: whether it is canonical, the first one of n points, the step to the next, and the bytes of its written form.
 //
 // A system is two lent slices: `sizes`, the points of each component, and `numbers`, the flat components one after another.
-use components::compare_generated;
-use components::count;
+use paths::compare_generated;
+use trees::count;
 use components::valid_component;
-use generation::successor;
+use succession::successor;
 use lists::Order;
 use lists::set_all;
 use written::put_number;
@@ -12,8 +12,8 @@ ghost use denote.Ref.{now};
 ghost use mathlib.Core.Path.{_≡_};
 ghost use mathlib.Core.List.{_∷_};
 ghost use mathlib.Core.Option.{some};
-ghost use Prim.Native.Nat.{ℕ, _≤_, _+_};
-ghost use lib.ListN.{length, take, replicate};
+ghost use Prim.Native.Nat.{_≤_, _+_};
+ghost use lib.ListN.{length, take};
 ghost use Rattle.lists.specs.Select.{first, gather};
 ghost use Rattle.lists.specs.Order.{atMost};
 ghost use Rattle.patterns.specs.System.{System, codes, compareGenerated, canonical as canonicalSystem};
@@ -23,7 +23,7 @@ ghost use Rattle.component_theory.specs.Successor.{successor as successorOf};
 ghost use Rattle.written.specs.Putting.{Placed};
 ghost use Rattle.system_theory.specs.Step.{nextSizes, bump as bumpOf, step};
 ghost use Rattle.memory.specs.Memory.{Holds, HeldSystem};
-ghost use Rattle.components.specs.Held.{HeldPair};
+ghost use Rattle.paths.specs.HeldPaths.{HeldPair};
 ghost use Rattle.systems.specs.Held.{sum, SizesIn, NextIn, fillNumbers, HeldAhead, Advanced, HeldCanonical, Bumped, HeldStep, SteppedTo};
 ghost use Rattle.systems.specs.Held.{HeldRoom, HeldWritable, Wrote};
 

@@ -3,7 +3,9 @@ use Rattle.lists.proofs.Tests.{not-of-true, not-of-false}
 use mathlib.Core.Path.{sym, _∙_}
 use Prim.Native.Nat.{_-_}
 use lib.ListN.{length}
-use Rattle.components.proofs.Walks.{Along, along-start, along-next}
+use Rattle.trees.proofs.Walks.{Along, along-start, along-next}
+use Rattle.arrangement.proofs.LeastTurn.{Best, best-start, best-within, best-kept, best-moved, best-end, least-already}
+use Rattle.trees.proofs.Walks.{Along, along-start, along-next}
 use Rattle.arrangement.proofs.LeastTurn.{Best, best-start, best-within, best-kept, best-moved, best-end, least-already}
 use native.Mathlib.Omega.{arith}
 use borrow.Author.Needs.{needs}

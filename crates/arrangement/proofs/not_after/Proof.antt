@@ -3,7 +3,6 @@ use mathlib.Core.Path.{ap, sym, _∙_}
 use lib.Dec.{isLe}
 use Rattle.lists.specs.Blocks.{orderingOf}
 use Rattle.arrangement.proofs.ComponentPlaces.{fewer-first, more-later}
-use native.Mathlib.Omega.{arith}
 use borrow.Author.Needs.{needs}
 use Rattle.arrangement.proofs.not_after.Statement.{statement}
 use Rattle.arrangement.proofs.not_after.Tie as tie

@@ -7,7 +7,7 @@ use borrow.Author.Needs.{needs}
 use lib.Dec.{isLe}
 use lib.ListN.{length}
 use Rattle.lists.specs.Blocks.{orderingOf}
-use Rattle.components.proofs.Walks.{Along, Next, along-next, along-length}
+use Rattle.trees.proofs.Walks.{Along, Next, along-next, along-length}
 use Rattle.components.proofs.OnePass.{Kept, none-less, kept-start, kept-within, old, old-tree, treesAt, kept-equal, kept-greater, kept-smaller, kept-end}
 use Rattle.components.proofs.has_least_rotation.Statement.{statement}
 use Rattle.components.proofs.has_least_rotation.Tie as tie
