@@ -1,10 +1,10 @@
 // Putting trees and components in their places: sorted in among others, and turned to their least rotation, the labels with them.
-use trees::at_most;
-use paths::compare_generated;
 use components::has_least_rotation;
 use lists::Order;
 use lists::compare;
 use lists::exchange;
+use paths::compare_generated;
+use trees::at_most;
 ghost use denote.Ref.{now};
 ghost use mathlib.Core.Path.{_≡_};
 ghost use mathlib.Core.Bool.{true};

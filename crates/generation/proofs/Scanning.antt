@@ -13,7 +13,8 @@ use Rattle.patterns.specs.Component.{Component, flat, validComponent}
 use Rattle.patterns.proofs.Trees.{flat-injective}
 use Rattle.trees.specs.Beginnings.{leadingPoints}
 use Rattle.component_theory.specs.ChildPlaces.{childAt, childFrom}
-use Rattle.component_theory.proofs.ChildPlaces.{childFrom-step, childFrom-end, childFrom-lefts, childFrom-past, length-candidates, childAt}
+use Rattle.component_theory.proofs.ChildPlaces.{childFrom-step, childFrom-end, childFrom-lefts, childFrom-past, length-candidates}
+use Rattle.component_theory.specs.ChildPlaces.{childAt}
 use Rattle.component_theory.specs.ChildPlaces.{childFrom}
 use Rattle.trees.specs.Beginnings.{leadingPoints}
 use Rattle.component_theory.proofs.Generation.{valid-positive}

@@ -15,7 +15,8 @@ use Rattle.trees.specs.Beginnings.{lastStart}
 use Rattle.trees.proofs.Walks.{lastStart-within}
 use Rattle.component_theory.proofs.Keys.{isLeast}
 use Rattle.component_theory.specs.ChildPlaces.{childAt}
-use Rattle.component_theory.proofs.ChildPlaces.{childAt-left, childAt-right, childAt}
+use Rattle.component_theory.proofs.ChildPlaces.{childAt-left, childAt-right}
+use Rattle.component_theory.specs.ChildPlaces.{childAt}
 use Rattle.generation.specs.HeldNodes.{Gave}
 use Rattle.generation.proofs.Merging.{that-size, this-stretch, that-stretch, last-stretch, last-branch-atMost}
 use Rattle.trees.proofs.Walks.{lastStart-within}

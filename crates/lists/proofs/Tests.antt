@@ -17,7 +17,7 @@ by-test false f g = g refl
 pub no-both {ℓ} : {P : Type ℓ} {b : Bool} → b ≡ true → b ≡ false → P
 no-both e f = absurd (true≢false (sym e ∙ f))
 
--- two constructors that were found equal: `clash cc`
+-- An equation of two different constructors proves anything: cite it as `clash cc`, for `cc` makes 0 ≡ 1 of it.
 pub clash {ℓ} : {P : Type ℓ} → _≡_ {A = ℕ} 0 1 → P
 clash e = absurd (omega arith)
 
@@ -125,7 +125,3 @@ module _ {A : Type 0} (p : A → Bool) where
   pub some-append : (l m : List A) → some-of p (l ++ m) ≡ (some-of p l || some-of p m)
   some-append [] m = refl
   some-append (x ∷ l) m = by-test (p x) (λ t. rw t) (λ f. rw (f, some-append l m))
-
--- An equation of two different constructors proves anything: cite it as `clash cc`, for `cc` finds the equation among the hypotheses and makes 0 ≡ 1 of it.
-pub clash {ℓ} : {P : Type ℓ} → _≡_ {A = ℕ} 0 1 → P
-clash e = absurd (omega arith)

@@ -1,12 +1,12 @@
 // A whole code in memory: whether it is canonical, the first one of n points, the step to the next, and the bytes of its written form.
 //
 // A system is two lent slices: `sizes`, the points of each component, and `numbers`, the flat components one after another.
-use paths::compare_generated;
-use trees::count;
 use components::valid_component;
-use succession::successor;
 use lists::Order;
 use lists::set_all;
+use paths::compare_generated;
+use succession::successor;
+use trees::count;
 use written::put_number;
 ghost use denote.Ref.{now};
 ghost use mathlib.Core.Path.{_≡_};
