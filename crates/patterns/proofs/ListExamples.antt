@@ -1,0 +1,32 @@
+-- Entries "first code for a count" and "successor", computed.
+use mathlib.Core.Path.{_≡_, refl}
+use mathlib.Core.List.{List, [], _∷_}
+use Prim.Native.Nat.{ℕ}
+use lib.ListN.{replicate}
+use Rattle.patterns.specs.declared.Refusal.the-variants.{Count, Trailing}
+use Rattle.patterns.specs.Entry.{gives, ends, fails, firstOf, successorOf}
+use Rattle.patterns.specs.Sheet.{AllHold, successor-of, no-successor}
+
+-- as many components of one point as there are points
+pub first-codes :
+    (firstOf 0 ≡ gives (0 ∷ 0 ∷ [])) × (firstOf 3 ≡ gives (3 ∷ 3 ∷ 1 ∷ 1 ∷ 1 ∷ 1 ∷ 1 ∷ 1 ∷ [])) × (firstOf 201 ≡ fails Count)
+unfolding firstOf
+first-codes = (refl, refl, refl)
+
+pub first-of-200 : firstOf 200 ≡ gives (200 ∷ 1 ∷ 200 ∷ 1 ∷ replicate 400 1)
+unfolding firstOf
+first-of-200 = refl
+
+-- the rightmost component moves; then the sizes move; the last code has none after it
+pub successors : AllHold (
+    successor-of (3 ∷ 2 ∷ 1 ∷ 1 ∷ 2 ∷ 1 ∷ 1 ∷ []) (3 ∷ 2 ∷ 1 ∷ 1 ∷ 1 ∷ 2 ∷ 1 ∷ [])
+    ∷ successor-of (3 ∷ 2 ∷ 1 ∷ 1 ∷ 1 ∷ 2 ∷ 1 ∷ []) (3 ∷ 1 ∷ 3 ∷ 1 ∷ 1 ∷ 1 ∷ [])
+    ∷ no-successor (3 ∷ 1 ∷ 2 ∷ 1 ∷ 2 ∷ 1 ∷ [])
+    ∷ [])
+unfolding AllHold successorOf
+successors = (refl, (refl, (refl, tt)))
+
+-- what is no code has no successor
+pub successor-of-no-code : successorOf (3 ∷ 1 ∷ 2 ∷ 1 ∷ 2 ∷ 1 ∷ 1 ∷ []) ≡ fails Trailing
+unfolding successorOf
+successor-of-no-code = refl
