@@ -24,11 +24,13 @@ pub room-for-result :
     × (on result (8 ∷ 9 ∷ []) ≡ (refused 8, 8 ∷ 9 ∷ []))
 room-for-result = (refl, refl, refl)
 
--- a result of no bytes needs none; without a result the room is not looked at, and all bytes are kept
+-- A result of no bytes needs none. Without a result the room is not looked at, and all bytes are kept.
 pub no-room-needed :
     (on (gives []) [] ≡ (length-is 0, []))
+    × (on ends [] ≡ (last, []))
     × (on ends (9 ∷ []) ≡ (last, 9 ∷ []))
+    × (on lacks [] ≡ (none-exists, []))
     × (on lacks (9 ∷ []) ≡ (none-exists, 9 ∷ []))
-    × (on (fails Image) (9 ∷ []) ≡ (refused 2, 9 ∷ []))
     × (on (fails Image) [] ≡ (refused 2, []))
-no-room-needed = (refl, refl, refl, refl, refl)
+    × (on (fails Image) (9 ∷ []) ≡ (refused 2, 9 ∷ []))
+no-room-needed = (refl, refl, refl, refl, refl, refl, refl)
