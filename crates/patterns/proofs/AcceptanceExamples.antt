@@ -1,10 +1,9 @@
 -- Entry "accept", computed: accepted codes with their n, the causes that a code can have, and codes with two faults, of which the first decides.
 use mathlib.Core.Path.{_≡_, refl}
-use mathlib.Core.List.{List, [], _∷_, _++_}
-use Prim.Native.Nat.{ℕ}
+use mathlib.Core.List.{[], _∷_}
 use lib.ListN.{replicate}
 use Rattle.patterns.specs.declared.Refusal.the-variants.{Truncated, NumberForm}
-use Rattle.patterns.specs.Tree.{point, merge}
+use Rattle.patterns.specs.Tree.{point}
 use Rattle.patterns.specs.Written.{written}
 use Rattle.patterns.specs.Reading.{done, fault, cut}
 use Rattle.patterns.specs.Entry.{length-is, acceptOf}

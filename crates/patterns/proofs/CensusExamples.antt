@@ -1,11 +1,9 @@
 -- Entry "census of a map", computed: number of rows, distance and longest cycle all differ, a length occurs twice, and what is greatest stands inside.
 use mathlib.Core.Path.{_≡_, refl}
-use mathlib.Core.Bool.{true, false}
 use mathlib.Core.List.{List, [], _∷_, map}
 use Prim.Native.Nat.{ℕ}
 use native.Mathlib.Omega.{arith}
 use lib.Dec.{eqb}
-use lib.ListN.{replicate}
 use borrow.Author.Tests.{eqb-true}
 use Rattle.lists.specs.Select.{range}
 use Rattle.lists.proofs.Tests.{by-test}
@@ -14,7 +12,8 @@ use Rattle.patterns.specs.declared.Refusal.the-variants.{Image}
 use Rattle.patterns.specs.Reading.{Result, done, fault}
 use Rattle.patterns.specs.Table.{image}
 use Rattle.patterns.specs.Census.{Row, Census, cycleLengths, cyclesOf, stepsToCycle, height, longestCycle}
-use Rattle.patterns.specs.Entry.{numberOf, gives, filled, outcome, checkedTable, Counted, table-refused, counted, CensusAnswer, census-is, census-refused, censusAnswered, CensusReplied}
+use Rattle.patterns.specs.Entry.{numberOf, gives, filled, outcome, checkedTable}
+use Rattle.patterns.specs.Entry.{Counted, table-refused, counted, CensusAnswer, census-is, census-refused, censusAnswered, CensusReplied}
 
 -- cycles of 1, 4 and 1 points, and three points on the way to the first
 abbrev table : List ℕ

@@ -10,7 +10,8 @@ use Rattle.patterns.specs.declared.Refusal.the-variants.{Count, Image}
 use Rattle.patterns.specs.Reading.{done, fault}
 use Rattle.patterns.specs.Table.{image}
 use Rattle.patterns.specs.Isomorphism.{Isomorphism, isIsomorphism, isomorphisms}
-use Rattle.patterns.specs.Entry.{Outcome, gives, lacks, fails, length-is, none-exists, refused, checkedTable, Replied, Isomorphic, first-refused, second-refused, found, lengths-differ, not-found, IsomorphismReplied}
+use Rattle.patterns.specs.Entry.{Outcome, gives, lacks, fails, length-is, refused, checkedTable}
+use Rattle.patterns.specs.Entry.{Isomorphic, first-refused, second-refused, found, lengths-differ, not-found, IsomorphismReplied}
 use Rattle.patterns.proofs.Bridges.{isomorphism-test}
 
 -- The only renaming of 0 0 1 to 2 1 1 is 1 2 0, and 2 0 1, its inverse, is the one back.

@@ -1,10 +1,9 @@
 -- Entries "first code for a count" and "successor", computed.
 use mathlib.Core.Path.{_≡_, refl}
-use mathlib.Core.List.{List, [], _∷_}
-use Prim.Native.Nat.{ℕ}
+use mathlib.Core.List.{[], _∷_}
 use lib.ListN.{replicate}
 use Rattle.patterns.specs.declared.Refusal.the-variants.{Count, Trailing}
-use Rattle.patterns.specs.Entry.{gives, ends, fails, firstOf, successorOf}
+use Rattle.patterns.specs.Entry.{gives, fails, firstOf, successorOf}
 use Rattle.patterns.specs.Sheet.{AllHold, successor-of, no-successor}
 
 -- as many components of one point as there are points

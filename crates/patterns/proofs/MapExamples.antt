@@ -1,7 +1,6 @@
 -- Entry "map of a code", computed: the numbers of the trees in written order are the points.
 use mathlib.Core.Path.{_≡_, refl}
-use mathlib.Core.List.{List, [], _∷_}
-use Prim.Native.Nat.{ℕ}
+use mathlib.Core.List.{[], _∷_}
 use Rattle.patterns.specs.declared.Refusal.the-variants.{Truncated, NotCanonical}
 use Rattle.patterns.specs.Entry.{gives, fails, mapOfCode}
 

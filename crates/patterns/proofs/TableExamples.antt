@@ -1,11 +1,10 @@
 -- Tables and their codes, computed: the causes 1 and 2, trees along a cycle, branches and components that the table has out of order.
 use mathlib.Core.Path.{_≡_, refl}
-use mathlib.Core.List.{List, [], _∷_, _++_}
-use Prim.Native.Nat.{ℕ}
+use mathlib.Core.List.{[], _∷_}
 use lib.ListN.{replicate}
 use Rattle.patterns.specs.declared.Refusal.the-variants.{Count, Image}
 use Rattle.patterns.specs.Reading.{done, fault}
-use Rattle.patterns.specs.Table.{treeAt, image, cycleFrom, leaders}
+use Rattle.patterns.specs.Table.{image, cycleFrom, leaders}
 use Rattle.patterns.specs.Entry.{fails, checkedTable, codeOfMap}
 use Rattle.patterns.specs.Sheet.{AllHold, table-has-code}
 
