@@ -10,7 +10,7 @@ use Rattle.patterns.specs.Entry.{length-is, acceptOf}
 use Rattle.patterns.specs.Sheet.{AllHold, refused-with}
 
 -- numbers of one and of two bytes, at their bounds
-pub numbers-cut : cut (127 ∷ 128 ∷ 1 ∷ 255 ∷ 127 ∷ 0 ∷ []) ≡ done (127 ∷ 128 ∷ 16383 ∷ 0 ∷ [])
+pub numbers-cut : cut (127 ∷ 128 ∷ 1 ∷ 255 ∷ 127 ∷ 0 ∷ 127 ∷ []) ≡ done (127 ∷ 128 ∷ 16383 ∷ 0 ∷ 127 ∷ [])
 unfolding cut
 numbers-cut = refl
 
@@ -32,7 +32,7 @@ pub accepted-with-n :
     × (acceptOf (3 ∷ 1 ∷ 1 ∷ 3 ∷ 2 ∷ 1 ∷ []) ≡ length-is 3)
     × (acceptOf (3 ∷ 3 ∷ 1 ∷ 1 ∷ 1 ∷ 1 ∷ 1 ∷ 1 ∷ []) ≡ length-is 3)
     × (acceptOf (4 ∷ 2 ∷ 1 ∷ 1 ∷ 2 ∷ 1 ∷ 2 ∷ 1 ∷ []) ≡ length-is 4)
-    × (acceptOf (5 ∷ 1 ∷ 1 ∷ 5 ∷ 1 ∷ 3 ∷ 2 ∷ 1 ∷ []) ≡ length-is 5)
+    × (acceptOf (7 ∷ 1 ∷ 1 ∷ 7 ∷ 2 ∷ 1 ∷ 4 ∷ 1 ∷ 2 ∷ 1 ∷ []) ≡ length-is 7)
 unfolding acceptOf
 accepted-with-n = (refl, refl, refl, refl, refl)
 

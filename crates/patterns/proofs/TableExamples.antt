@@ -46,13 +46,17 @@ pub branches-sorted : AllHold (
 unfolding AllHold codeOfMap
 branches-sorted = (refl, (refl, tt))
 
--- Components of 2, 1 and 2 points, in this order in the table: the fewer points first, then the cycle before the tree.
-pub components-sorted : AllHold (table-has-code (0 ∷ 0 ∷ 2 ∷ 4 ∷ 3 ∷ []) (5 ∷ 3 ∷ 1 ∷ 1 ∷ 2 ∷ 1 ∷ 1 ∷ 1 ∷ 2 ∷ 1 ∷ []) ∷ [])
+-- Components of 2, 1 and 2 points, in this order in the table: the fewer points first, then the cycle before the tree. Components whose least
+-- points are on no cycle.
+pub components-sorted : AllHold (
+    table-has-code (0 ∷ 0 ∷ 2 ∷ 4 ∷ 3 ∷ []) (5 ∷ 3 ∷ 1 ∷ 1 ∷ 2 ∷ 1 ∷ 1 ∷ 1 ∷ 2 ∷ 1 ∷ [])
+    ∷ table-has-code (3 ∷ 2 ∷ 2 ∷ 4 ∷ 3 ∷ []) (5 ∷ 2 ∷ 1 ∷ 2 ∷ 1 ∷ 2 ∷ 1 ∷ 2 ∷ 1 ∷ [])
+    ∷ [])
 unfolding AllHold codeOfMap
-components-sorted = (refl, tt)
+components-sorted = (refl, (refl, tt))
 
--- the least points of the cycles, and a cycle from a point on
+-- the least points of the cycles, where point 0 is on none, and a cycle from a point on
 pub cycles-of-table :
-    (leaders 6 (image (5 ∷ 3 ∷ 2 ∷ 1 ∷ 2 ∷ 0 ∷ [])) ≡ 0 ∷ 1 ∷ 2 ∷ []) × (cycleFrom 4 (image (3 ∷ 0 ∷ 1 ∷ 2 ∷ [])) 1 ≡ 1 ∷ 0 ∷ 3 ∷ 2 ∷ [])
+    (leaders 6 (image (3 ∷ 5 ∷ 2 ∷ 4 ∷ 3 ∷ 1 ∷ [])) ≡ 1 ∷ 2 ∷ 3 ∷ []) × (cycleFrom 4 (image (3 ∷ 0 ∷ 1 ∷ 2 ∷ [])) 1 ≡ 1 ∷ 0 ∷ 3 ∷ 2 ∷ [])
 unfolding leaders cycleFrom
 cycles-of-table = (refl, refl)
