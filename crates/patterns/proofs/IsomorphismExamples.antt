@@ -1,6 +1,7 @@
 -- Entry "renaming between two maps": isomorphisms in the direction of document 01, "none", and the first table's fault before the second's. What the
 -- relation leaves open is shown of whatever it allows.
 use mathlib.Core.Path.{_≡_, refl}
+use mathlib.Core.Bool.{false}
 use mathlib.Core.List.{List, [], _∷_}
 use Prim.Native.Nat.{ℕ, zero, suc}
 use native.Mathlib.Omega.{arith}
@@ -27,6 +28,14 @@ pub renamings-counted :
     × (isomorphisms [] [] ≡ [] ∷ [])
 unfolding isomorphisms
 renamings-counted = (refl, refl, refl)
+
+-- no renamings of 0 0 to itself: one of three bytes, one that has a point twice, one that follows no arrows
+pub no-renamings :
+    (isIsomorphism 2 (0 ∷ 0 ∷ []) (0 ∷ 0 ∷ []) (0 ∷ 1 ∷ 7 ∷ []) ≡ false)
+    × (isIsomorphism 2 (0 ∷ 0 ∷ []) (0 ∷ 0 ∷ []) (0 ∷ 0 ∷ []) ≡ false)
+    × (isIsomorphism 2 (0 ∷ 0 ∷ []) (0 ∷ 0 ∷ []) (1 ∷ 0 ∷ []) ≡ false)
+unfolding isIsomorphism
+no-renamings = (refl, refl, refl)
 
 -- 1 2 0 is a renaming of 0 0 1 to 2 1 1
 renaming : Isomorphism 3 (0 ∷ 0 ∷ 1 ∷ []) (2 ∷ 1 ∷ 1 ∷ []) (1 ∷ 2 ∷ 0 ∷ [])

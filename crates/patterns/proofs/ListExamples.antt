@@ -1,8 +1,11 @@
--- Entries "first code for a count" and "successor", computed.
+-- Entries "first code for a count" and "successor", computed, and what the order of the list rests on.
 use mathlib.Core.Path.{_≡_, refl}
+use mathlib.Core.Bool.{false}
 use mathlib.Core.List.{[], _∷_}
 use lib.ListN.{replicate}
 use Rattle.patterns.specs.declared.Refusal.the-variants.{Count, Trailing}
+use Rattle.patterns.specs.Tree.{point}
+use Rattle.patterns.specs.Generation.{isChild}
 use Rattle.patterns.specs.Entry.{gives, fails, firstOf, successorOf}
 use Rattle.patterns.specs.Sheet.{AllHold, successor-of, no-successor}
 
@@ -29,3 +32,8 @@ successors = (refl, (refl, (refl, tt)))
 pub successor-of-no-code : successorOf (3 ∷ 1 ∷ 2 ∷ 1 ∷ 2 ∷ 1 ∷ 1 ∷ []) ≡ fails Trailing
 unfolding successorOf
 successor-of-no-code = refl
+
+-- the cycle of n points has no parent, and so is nobody's child
+pub cycle-no-child : isChild (point ∷ point ∷ []) (point ∷ point ∷ []) ≡ false
+unfolding isChild
+cycle-no-child = refl
