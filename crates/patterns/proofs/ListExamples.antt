@@ -5,6 +5,7 @@ use mathlib.Core.List.{[], _∷_}
 use lib.ListN.{replicate}
 use Rattle.patterns.specs.declared.Refusal.the-variants.{Count, Trailing}
 use Rattle.patterns.specs.Tree.{point}
+use Rattle.patterns.specs.Component.{validComponent}
 use Rattle.patterns.specs.Generation.{isChild}
 use Rattle.patterns.specs.Entry.{gives, fails, firstOf, successorOf}
 use Rattle.patterns.specs.Sheet.{AllHold, successor-of, no-successor}
@@ -32,6 +33,11 @@ successors = (refl, (refl, (refl, tt)))
 pub successor-of-no-code : successorOf (3 ∷ 1 ∷ 2 ∷ 1 ∷ 2 ∷ 1 ∷ 1 ∷ []) ≡ fails Trailing
 unfolding successorOf
 successor-of-no-code = refl
+
+-- a component has a tree
+pub component-not-empty : validComponent [] ≡ false
+unfolding validComponent
+component-not-empty = refl
 
 -- the cycle of n points has no parent, and so is nobody's child
 pub cycle-no-child : isChild (point ∷ point ∷ []) (point ∷ point ∷ []) ≡ false

@@ -38,13 +38,14 @@ pub cycle-direction : AllHold (
 unfolding AllHold codeOfMap
 cycle-direction = (refl, (refl, (refl, tt)))
 
--- Branches of 3, 2 and 1 points, in this order in the table, and below them a branch of 2 before one of 1.
+-- Branches of 3, 2 and 1 points, in this order in the table; below a branch one of 2 before one of 1; (4 1 1 1) before (3 2 1), which is the lesser.
 pub branches-sorted : AllHold (
     table-has-code (0 ∷ 0 ∷ 0 ∷ 0 ∷ 1 ∷ 1 ∷ 2 ∷ []) (7 ∷ 1 ∷ 1 ∷ 7 ∷ 1 ∷ 2 ∷ 1 ∷ 3 ∷ 1 ∷ 1 ∷ [])
     ∷ table-has-code (0 ∷ 0 ∷ 1 ∷ 1 ∷ 2 ∷ []) (5 ∷ 1 ∷ 1 ∷ 5 ∷ 4 ∷ 1 ∷ 2 ∷ 1 ∷ [])
+    ∷ table-has-code (0 ∷ 0 ∷ 1 ∷ 1 ∷ 1 ∷ 0 ∷ 5 ∷ 6 ∷ []) (8 ∷ 1 ∷ 1 ∷ 8 ∷ 3 ∷ 2 ∷ 1 ∷ 4 ∷ 1 ∷ 1 ∷ 1 ∷ [])
     ∷ [])
 unfolding AllHold codeOfMap
-branches-sorted = (refl, (refl, tt))
+branches-sorted = (refl, (refl, (refl, tt)))
 
 -- Components of 2, 1 and 2 points, in this order in the table: the fewer points first, then the cycle before the tree. Components whose least
 -- points are on no cycle.
