@@ -5,3 +5,11 @@ pub mod Bridges
 pub mod Sheet
 pub mod Totals
 pub mod Causes
+pub mod AcceptanceExamples
+pub mod TableExamples
+pub mod MapExamples
+pub mod IsomorphismExamples
+pub mod CensusExamples
+pub mod ReplyExamples
+pub mod ComponentExamples
+pub mod ListExamples

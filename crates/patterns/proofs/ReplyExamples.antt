@@ -1,0 +1,37 @@
+-- Replies and lent buffers, computed: the numbers of the causes, a full buffer, one with a place left, and one a place too short.
+use mathlib.Core.Path.{_≡_, refl}
+use mathlib.Core.List.{List, [], _∷_, map}
+use Prim.Native.Nat.{ℕ}
+use Rattle.patterns.specs.declared.Refusal.the-variants.{Count, Image, Truncated, NumberForm, Sizes, NotCanonical, Trailing, Room, Position}
+use Rattle.patterns.specs.Replies.{numberOf, Answer, length-is, last, lacking, refused}
+use Rattle.patterns.specs.Entry.{Outcome, gives, ends, lacks, fails, answered, filled}
+
+-- the table of causes
+pub causes-numbered :
+    map numberOf (Count ∷ Image ∷ Truncated ∷ NumberForm ∷ Sizes ∷ NotCanonical ∷ Trailing ∷ Room ∷ Position ∷ []) ≡ 1 ∷ 2 ∷ 3 ∷ 4 ∷ 5 ∷ 6 ∷ 7 ∷ 8 ∷ 9 ∷ []
+causes-numbered = refl
+
+-- the reply and the buffer afterwards
+abbrev on : Outcome ℕ → List ℕ → Answer × List ℕ
+on o out = (answered o out, filled o out)
+
+abbrev result : Outcome ℕ
+result = gives (1 ∷ 2 ∷ 3 ∷ [])
+
+-- a full buffer; one with a place left, which keeps its byte; one byte too few, which is 8 and keeps all
+pub room-for-result :
+    (on result (7 ∷ 8 ∷ 9 ∷ []) ≡ (length-is 3, 1 ∷ 2 ∷ 3 ∷ []))
+    × (on result (6 ∷ 7 ∷ 8 ∷ 9 ∷ []) ≡ (length-is 3, 1 ∷ 2 ∷ 3 ∷ 9 ∷ []))
+    × (on result (8 ∷ 9 ∷ []) ≡ (refused 8, 8 ∷ 9 ∷ []))
+room-for-result = (refl, refl, refl)
+
+-- A result of no bytes needs none. Without a result the room is not looked at, and all bytes are kept.
+pub no-room-needed :
+    (on (gives []) [] ≡ (length-is 0, []))
+    × (on ends [] ≡ (last, []))
+    × (on ends (9 ∷ []) ≡ (last, 9 ∷ []))
+    × (on lacks [] ≡ (lacking, []))
+    × (on lacks (9 ∷ []) ≡ (lacking, 9 ∷ []))
+    × (on (fails Image) [] ≡ (refused 2, []))
+    × (on (fails Image) (9 ∷ []) ≡ (refused 2, 9 ∷ []))
+no-room-needed = (refl, refl, refl, refl, refl, refl, refl)
