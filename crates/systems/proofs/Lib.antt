@@ -1,7 +1,6 @@
 -- The laws of this layer, in plain terms; the proofs of the functions cite them.
 pub mod Filling
 pub mod Growing
-pub mod Writing
-pub mod Scanning
 pub mod Advancing
+pub mod Scanning
 pub mod Stepping
