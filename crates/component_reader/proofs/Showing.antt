@@ -18,7 +18,8 @@ use Rattle.patterns.specs.Reading.{Result, done, fault, andThen, accepted}
 use Rattle.patterns.specs.Replies.{numberOf}
 use Rattle.patterns.specs.Entry.{componentOf}
 use Rattle.form_theory.proofs.Bounds.{allBelow, below-at}
-use Rattle.form_theory.proofs.WrittenBack.{accepted-is, component-stretch, component-ends}
+use Rattle.form_theory.proofs.WrittenBack.{accepted-is}
+use Rattle.form_theory.proofs.Stretches.{component-stretch, component-ends}
 use Rattle.patterns.specs.declared.reply.Stretch.{Stretch}
 use Rattle.patterns.specs.declared.reply.Stretch.the-variants.{Part}
 use Rattle.patterns.specs.declared.reply.Stretch.the-variants.{Refused}

@@ -1,81 +1,29 @@
 // The component reader [document 01, "Refusing", last paragraph]: it shows the bytes of one component at a time, as a part of the code that it was
 // given. A reader is a code and a position. The functions over it are thin: what they answer is found by functions on a slice and a number.
 use acceptance::accept_into;
-use acceptance::accept_into;
 use patterns::Refusal;
 use patterns::Stretch;
 use patterns::points_room;
 use reading::Accepted;
 use trees::count;
+use acceptance::accept_into;
+use writing::stretch_in;
 ghost use denote.Ref.{now};
 ghost use mathlib.Core.Path.{_≡_};
-ghost use Prim.Native.Nat.{_≤_};
-ghost use lib.ListN.{length};
-ghost use Rattle.patterns.specs.System.{System};
-ghost use Rattle.patterns.specs.Written.{writeNumber, bytes as bytesOf};
 ghost use Rattle.patterns.specs.Entry.{componentOf};
-ghost use Rattle.memory.specs.Memory.{Holds};
-ghost use Rattle.memory.specs.Memory.{HeldSystem};
 ghost use Rattle.patterns.specs.Replies.{partAnswer};
-ghost use Rattle.patterns.specs.Entry.{partAnswered, componentIn};
+ghost use Rattle.patterns.specs.Entry.{partAnswered};
 ghost use Rattle.patterns.specs.Entry.{Shown};
-
-// How many bytes a number takes.
-fn width(x: usize) -> usize
-    ensures { λ r. ⌜ r ≡ length (writeNumber x) ⌝ }
-{
-    if x < 128 {
-        return 1;
-    }
-    2
-}
-
-// How many bytes the numbers of `s` take.
-fn total_width(s: &[u8]) -> usize
-    requires { ⌜ length (now s) ≤ 200 ⌝ }
-    ensures { λ r. ⌜ r ≡ length (bytesOf (now (s .entry))) ⌝ }
-{
-    let mut sum = 0;
-    let mut i = 0;
-    while i < s.len() {
-        sum += width(s[i] as usize);
-        i += 1;
-    }
-    sum
-}
-
-// Where the component at `position` stands in the written code of the system: its bytes are the number of its trees and then their codes.
-fn stretch_in(sizes: &[u8], numbers: &[u8], position: usize) -> Stretch
-    requires { ⌜ HeldSystem (now sizes) (now numbers) ⌝ }
-    ensures { λ r. ⌜ ((S : System) → Holds S (now (sizes .entry)) (now (numbers .entry))
-        → partAnswer r ≡ partAnswered (componentIn S position)) ⌝ }
-{
-    let mut start = width(numbers.len()) + width(sizes.len());
-    let mut from = 0;
-    let mut i = 0;
-    while i < sizes.len() {
-        let to = from + sizes[i] as usize;
-        let trees = start + width(count(&numbers[from..to]));
-        let end = trees + total_width(&numbers[from..to]);
-        if i == position {
-            return Stretch::Part(start, end);
-        }
-        start = end;
-        from = to;
-        i += 1;
-    }
-    Stretch::Refused(Refusal::Position)
-}
 
 // Where the component at `position`, counted from 0, stands in `code`. The code's own faults come first.
 pub fn stretch_of(code: &[u8], position: usize) -> Stretch
     ensures { λ r. ⌜ partAnswer r ≡ partAnswered (componentOf (now (code .entry)) position) ⌝ }
 {
     let mut sizes = points_room();
-    let mut numbers = points_room();
-    match accept_into(code, &mut sizes, &mut numbers) {
+    let mut trees = points_room();
+    match accept_into(code, &mut sizes, &mut trees) {
         Accepted::Refused(cause) => Stretch::Refused(cause),
-        Accepted::System(m, n) => stretch_in(&sizes[..m], &numbers[..n], position),
+        Accepted::System(m, n) => stretch_in(&sizes[..m], &trees[..n], position),
     }
 }
 

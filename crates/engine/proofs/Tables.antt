@@ -17,8 +17,7 @@ use Rattle.patterns.specs.Table.{isTable}
 use Rattle.patterns.specs.Reading.{Result, done, fault}
 use Rattle.patterns.specs.Entry.{checkedTable}
 use Rattle.patterns.specs.declared.reply.Reply.{Reply}
-use Rattle.patterns.specs.declared.reply.Reply.the-variants.{Length}
-use Rattle.written.specs.declared.Cut.the-variants.{Refused}
+use Rattle.patterns.specs.declared.reply.Reply.the-variants.{Length, Refused}
 use Rattle.engine.specs.Tables.{tableReply, Table}
 
 -- The first i bytes of f are points.

@@ -12,8 +12,7 @@ use Rattle.patterns.specs.Reading.{Result, done, fault}
 use Rattle.patterns.specs.Replies.{Answer}
 use Rattle.patterns.specs.Entry.{Replied, gives}
 use Rattle.patterns.specs.declared.reply.Reply.{Reply}
-use Rattle.patterns.specs.declared.reply.Reply.the-variants.{Length}
-use Rattle.written.specs.declared.Cut.the-variants.{Refused}
+use Rattle.patterns.specs.declared.reply.Reply.the-variants.{Length, Refused}
 use Rattle.systems.specs.Held.{Wrote}
 
 -- the number of points of a table that passes the checks

@@ -19,7 +19,7 @@ use reading::Accepted;
 use systems::Stepped;
 use systems::first_system;
 use systems::next_system;
-use systems::write_system;
+use writing::write_system;
 use written::put;
 ghost use denote.Ref.{now};
 ghost use mathlib.Core.Path.{_≡_};

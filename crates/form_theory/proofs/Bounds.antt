@@ -1,14 +1,15 @@
 -- Lists of numbers below a bound, and the length of gathered lists.
-use mathlib.Core.Path.{_≡_, refl}
+use mathlib.Core.Path.{_≡_, refl, ap, sym, _∙_}
 use mathlib.Core.Bool.{Bool, true}
 use mathlib.Core.List.{List, [], _∷_, _++_}
 use Prim.Native.Nat.{ℕ, suc, _+_, _-_, _≤_, _<_}
 use native.Mathlib.Omega.{arith}
 use lib.Dec.{ltb}
-use lib.ListN.{length, getD, length-append}
+use lib.ListN.{length, take, drop, getD, length-append, take-append-drop}
 use borrow.Author.Tests.{lt-ltb, ltb-true}
 use Rattle.lists.specs.Select.{each, gather, total}
 use Rattle.lists.proofs.Tests.{each-cons, each-head, each-tail}
+use Rattle.lists.proofs.Members.{gather-append}
 
 -- every number of l is below k
 abbrev pub allBelow : ℕ → List ℕ → Bool
@@ -39,3 +40,9 @@ below-grow j k (x ∷ l) h e = let g = below-head j x l e in below-cons k x l (o
 pub length-gather : {A B : Type 0} (f : A → List B) (l : List A) → length (gather f l) ≡ total (λ x. length (f x)) l
 length-gather f [] = refl
 length-gather f (x ∷ l) = rw (length-append, length-gather f l)
+
+-- the first of them are no longer than all
+pub gather-within : {A B : Type 0} (f : A → List B) (i : ℕ) (l : List A) → length (gather f (take i l)) ≤ length (gather f l)
+gather-within f i l =
+    let cut : gather f l ≡ gather f (take i l) ++ gather f (drop i l) = ap (gather f) (sym (take-append-drop i l)) ∙ gather-append f (take i l) (drop i l) in
+    omega (arith, ap length cut, length-append (gather f (take i l)) (gather f (drop i l)))

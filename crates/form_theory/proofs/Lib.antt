@@ -2,7 +2,9 @@
 pub mod Bounds
 pub mod Results
 pub mod Numbers
+pub mod Widths
 pub mod ReadFrom
 pub mod Readback
 pub mod WrittenBack
+pub mod Stretches
 pub mod Calls

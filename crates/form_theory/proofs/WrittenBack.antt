@@ -1,23 +1,20 @@
 -- The written code of a canonical system of at most 200 points is accepted as that system, and whatever is accepted is the written code of a
--- canonical system. A written code has at most 804 bytes, and a component's bytes stand in it between their marked ends.
+-- canonical system. A written code has at most 804 bytes.
 use mathlib.Core.Path.{_≡_, refl, ap, sym, _∙_}
 use mathlib.Core.Bool.{true}
-use mathlib.Core.List.{List, [], _∷_, _++_, append-assoc, append-nil}
-use Prim.Native.Nat.{ℕ, suc, _+_, _-_, _≤_, _<_}
+use mathlib.Core.List.{List, [], _∷_, _++_}
+use Prim.Native.Nat.{ℕ, _+_, _≤_, _<_}
 use native.Mathlib.Omega.{arith}
-use native.Mathlib.Numerals.{add-one}
-use lib.ListN.{length, getD, take, drop, length-append}
-use lib.Seq.{slice, split-at, take-at, drop-at, take-suc}
+use lib.ListN.{length}
 use Rattle.lists.specs.Select.{gather}
 use Rattle.patterns.specs.Tree.{Tree, point, merge, size, below, code}
 use Rattle.patterns.specs.Component.{Component, points, flat}
 use Rattle.patterns.specs.System.{System, weight, canonical}
-use Rattle.patterns.specs.Written.{componentNumbers, numbers, writeNumber, bytes, written, startOf}
+use Rattle.patterns.specs.Written.{componentNumbers, numbers, bytes, written}
 use Rattle.patterns.specs.Reading.{done, cut, readSystem, accepted}
 use Rattle.form_theory.proofs.Results.{Good, good-weaken, good-then, good-done}
-use Rattle.form_theory.proofs.Bounds.{allBelow, below-cons, below-append, length-gather}
-use Rattle.lists.proofs.Members.{gather-append}
-use Rattle.form_theory.proofs.Numbers.{cut-bytes, cut-good, bytes-append, bytes-below, bytes-length, write-length}
+use Rattle.form_theory.proofs.Bounds.{allBelow, below-cons, below-append}
+use Rattle.form_theory.proofs.Numbers.{cut-bytes, cut-good, bytes-below, bytes-length}
 use Rattle.form_theory.proofs.Readback.{trees-points, components-points, canonical-nonempty, length-components, read-system, system-good}
 use Rattle.patterns.proofs.Trees.{size-positive}
 
@@ -50,7 +47,7 @@ module _ (S : System) (c : canonical S ≡ true) (h : weight S ≤ 200) where
   numbers-short : allBelow 16384 (numbers S) ≡ true
   numbers-short = numbers-below 16384 S c (omega arith)
 
-  -- S5: the written code is accepted as the system
+  -- the written code is accepted as the system
   pub written-back : accepted (written S) ≡ done S
   unfolding accepted written
   written-back = rw (cut-bytes (numbers S) numbers-short) (read-system S c h)
@@ -73,74 +70,10 @@ accepted-good b h =
     good-then _ (Code b) (cut b) readSystem (cut-good b h) (λ xs q.
     good-weaken _ (Code b) (readSystem xs) (system-good xs) (λ S r. (q .0 ∙ ap bytes (r .0), r .1, r .2)))
 
--- S5: bytes that are accepted are the written code of a canonical system
+-- bytes that are accepted are the written code of a canonical system
 pub accepted-is : (b : List ℕ) (S : System) → allBelow 256 b ≡ true → accepted b ≡ done S → (b ≡ written S) × (canonical S ≡ true) × (weight S ≤ 200)
 accepted-is b S h e = good-done (Code b) (accepted b) S e (accepted-good b h)
 
 -- systems with one written code are equal
 pub written-equal : (S R : System) → canonical S ≡ true → canonical R ≡ true → weight S ≤ 200 → weight R ≤ 200 → written S ≡ written R → S ≡ R
 written-equal S R c d h k e = let p : done S ≡ done R = sym (written-back S c h) ∙ ap accepted e ∙ written-back R d k in cc
-
--- the bytes of one component
-abbrev pub componentBytes : Component → List ℕ
-componentBytes c = bytes (componentNumbers c)
-
-first-byte : (c : Component) → 0 < length (componentBytes c)
-first-byte c = omega (arith, length-append (writeNumber (length c)) (bytes (flat c)), write-length (length c) .0)
-
-bytes-gather : (S : System) → bytes (gather componentNumbers S) ≡ gather componentBytes S
-bytes-gather [] = refl
-bytes-gather (c ∷ S) = bytes-append (componentNumbers c) (gather componentNumbers S) ∙ ap (componentBytes c ++_) (bytes-gather S)
-
--- the bytes of n and of m
-abbrev pub heading : System → List ℕ
-heading S = bytes (weight S ∷ length S ∷ [])
-
--- the written code: n, m, and the bytes of each component
-pub written-parts : (S : System) → written S ≡ heading S ++ gather componentBytes S
-unfolding written
-written-parts S = bytes-append (weight S ∷ length S ∷ []) (gather componentNumbers S) ∙ ap (heading S ++_) (bytes-gather S)
-
-pub start-length : (S : System) (i : ℕ) → startOf S i ≡ length (heading S ++ gather componentBytes (take i S))
-unfolding startOf
-start-length S i = rw (length-append (heading S) (gather componentBytes (take i S)), length-gather componentBytes (take i S))
-
-module _ (S : System) (i : ℕ) (h : i < length S) where
-  -- the bytes before the component at position i, and those after it
-  abbrev before : List ℕ
-  before = heading S ++ gather componentBytes (take i S)
-
-  abbrev after : List ℕ
-  after = gather componentBytes (drop (suc i) S)
-
-  written-at : written S ≡ (before ++ componentBytes (getD S i [])) ++ after
-  written-at =
-      written-parts S ∙ ap (λ R. heading S ++ gather componentBytes R) (split-at S i [] h)
-      ∙ ap (heading S ++_) (gather-append componentBytes (take i S) (getD S i [] ∷ drop (suc i) S))
-      ∙ simp append-assoc
-
-  start-here : startOf S i ≡ length before
-  start-here = start-length S i
-
-  next-bytes : heading S ++ gather componentBytes (take (i + 1) S) ≡ before ++ componentBytes (getD S i [])
-  next-bytes =
-      ap (λ R. heading S ++ gather componentBytes R) (ap (λ j. take j S) (add-one i) ∙ take-suc S i [] h)
-      ∙ ap (heading S ++_) (gather-append componentBytes (take i S) (getD S i [] ∷ []))
-      ∙ simp (append-assoc, append-nil)
-
-  start-next : startOf S (i + 1) ≡ length (before ++ componentBytes (getD S i []))
-  start-next = start-length S (i + 1) ∙ ap length next-bytes
-
-  -- the component at position i stands from its start to the next one's
-  pub component-stretch : slice (startOf S i) (startOf S (i + 1)) (written S) ≡ bytes (componentNumbers (getD S i []))
-  component-stretch =
-      let b = componentBytes (getD S i []) in
-      rw (start-here, start-next, written-at, take-at (before ++ b) after (length (before ++ b)) refl, drop-at before b (length before) refl)
-
-  -- both ends lie within the code, and some byte lies between them
-  pub component-ends : (startOf S i < startOf S (i + 1)) × (startOf S (i + 1) ≤ length (written S))
-  component-ends =
-      let b = componentBytes (getD S i []) in (
-        omega (arith, start-here, start-next, length-append before b, first-byte (getD S i [])),
-        omega (arith, start-next, ap length written-at, length-append (before ++ b) after),
-      )

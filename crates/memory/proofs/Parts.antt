@@ -14,10 +14,10 @@ use Rattle.patterns.specs.System.{System, weight}
 use Rattle.patterns.proofs.Trees.{length-flat, flat-injective}
 use Rattle.memory.specs.Memory.{Holds}
 
--- as many numbers as points
-pub length-numbers : (S : System) → length (gather flat S) ≡ weight S
-length-numbers [] = refl
-length-numbers (c ∷ S) = omega (arith, length-append (flat c) (gather flat S), length-flat c, length-numbers S)
+-- as many bytes as points
+pub length-held : (S : System) → length (gather flat S) ≡ weight S
+length-held [] = refl
+length-held (c ∷ S) = omega (arith, length-append (flat c) (gather flat S), length-flat c, length-held S)
 
 -- component i is the next after the first i
 pub take-next : {B : Type 0} (f : Component → List B) (S : System) (i : ℕ) → i < length S → gather f (take (i + 1) S) ≡ gather f (take i S) ++ f (getD S i [])
@@ -26,49 +26,49 @@ take-next f S i h = rw (add-one i, take-suc S i [] h) (gather-append f (take i S
 pub weight-next : (S : System) (i : ℕ) → i < length S → weight (take (i + 1) S) ≡ weight (take i S) + points (getD S i [])
 weight-next S i h = rw (add-one i, take-suc S i [] h) (omega (arith, total-append points (take i S) (getD S i [] ∷ [])))
 
--- the numbers up to place i, and from there on
-pub numbers-cut : (S : System) (i : ℕ) → gather flat S ≡ gather flat (take i S) ++ gather flat (drop i S)
-numbers-cut S i = ap (gather flat) (sym (take-append-drop i S)) ∙ gather-append flat (take i S) (drop i S)
+-- the trees up to place i, and from there on
+pub trees-cut : (S : System) (i : ℕ) → gather flat S ≡ gather flat (take i S) ++ gather flat (drop i S)
+trees-cut S i = ap (gather flat) (sym (take-append-drop i S)) ∙ gather-append flat (take i S) (drop i S)
 
 pub weight-cut : (S : System) (i : ℕ) → weight S ≡ weight (take i S) + weight (drop i S)
 weight-cut S i = ap weight (sym (take-append-drop i S)) ∙ total-append points (take i S) (drop i S)
 
-pub front-numbers : (S : System) (i : ℕ) → take (weight (take i S)) (gather flat S) ≡ gather flat (take i S)
-front-numbers S i =
-    ap (take (weight (take i S))) (numbers-cut S i)
-    ∙ take-at (gather flat (take i S)) (gather flat (drop i S)) (weight (take i S)) (length-numbers (take i S))
+pub front-trees : (S : System) (i : ℕ) → take (weight (take i S)) (gather flat S) ≡ gather flat (take i S)
+front-trees S i =
+    ap (take (weight (take i S))) (trees-cut S i)
+    ∙ take-at (gather flat (take i S)) (gather flat (drop i S)) (weight (take i S)) (length-held (take i S))
 
-pub rest-numbers : (S : System) (i : ℕ) → drop (weight (take i S)) (gather flat S) ≡ gather flat (drop i S)
-rest-numbers S i =
-    ap (drop (weight (take i S))) (numbers-cut S i)
-    ∙ drop-at (gather flat (take i S)) (gather flat (drop i S)) (weight (take i S)) (length-numbers (take i S))
+pub rest-trees : (S : System) (i : ℕ) → drop (weight (take i S)) (gather flat S) ≡ gather flat (drop i S)
+rest-trees S i =
+    ap (drop (weight (take i S))) (trees-cut S i)
+    ∙ drop-at (gather flat (take i S)) (gather flat (drop i S)) (weight (take i S)) (length-held (take i S))
 
--- the numbers of component i
+-- the trees of component i
 pub part-flat : (S : System) (i k : ℕ) → i < length S → k ≡ points (getD S i []) → take k (drop (weight (take i S)) (gather flat S)) ≡ flat (getD S i [])
 part-flat S i k h e =
-    ap (take k) (rest-numbers S i ∙ ap (gather flat) (drop-cons S i [] h))
+    ap (take k) (rest-trees S i ∙ ap (gather flat) (drop-cons S i [] h))
     ∙ take-at (flat (getD S i [])) (gather flat (drop (suc i) S)) k (length-flat (getD S i []) ∙ sym e)
 
 pub part-fits : (S : System) (i : ℕ) → i < length S → weight (take i S) + points (getD S i []) ≤ weight S
 part-fits S i h = omega (arith, weight-next S i h, weight-cut S (i + 1))
 
 -- Of a system in memory.
-module _ {S : System} {sizes numbers : List ℕ} (h : Holds S sizes numbers) where
+module _ {S : System} {sizes trees : List ℕ} (h : Holds S sizes trees) where
   pub held-count : length sizes ≡ length S
   held-count = ap length (h .points-are) ∙ length-map S points
 
-  pub held-points : length numbers ≡ weight S
-  held-points = ap length (h .flat-is) ∙ length-numbers S
+  pub held-points : length trees ≡ weight S
+  held-points = ap length (h .flat-is) ∙ length-held S
 
   pub held-size : (i : ℕ) → getD sizes i 0 ≡ points (getD S i [])
   held-size i = ap (λ l. getD l i 0) (h .points-are) ∙ List·getD-map points S i []
 
-  -- component i ends within the numbers
-  pub held-fits : (i from : ℕ) → i < length sizes → from ≡ weight (take i S) → from + getD sizes i 0 ≤ length numbers
+  -- component i ends within the trees
+  pub held-fits : (i from : ℕ) → i < length sizes → from ≡ weight (take i S) → from + getD sizes i 0 ≤ length trees
   held-fits i from k e = omega (arith, held-count, held-points, held-size i, part-fits S i (omega (arith, held-count)))
 
-  -- its numbers
-  pub held-part : (i from to : ℕ) → i < length sizes → from ≡ weight (take i S) → to ≡ from + getD sizes i 0 → take (to - from) (drop from numbers) ≡ flat (getD S i [])
+  -- its trees
+  pub held-part : (i from to : ℕ) → i < length sizes → from ≡ weight (take i S) → to ≡ from + getD sizes i 0 → take (to - from) (drop from trees) ≡ flat (getD S i [])
   held-part i from to k e f =
       let g : to - from ≡ points (getD S i []) = omega (arith, held-size i) in
       rw (e, h .flat-is) (part-flat S i (to - weight (take i S)) (omega (arith, held-count)) (omega arith))
@@ -76,18 +76,18 @@ module _ {S : System} {sizes numbers : List ℕ} (h : Holds S sizes numbers) whe
   pub held-next : (i from to : ℕ) → i < length sizes → from ≡ weight (take i S) → to ≡ from + getD sizes i 0 → to ≡ weight (take (i + 1) S)
   held-next i from to k e f = omega (arith, held-count, held-size i, weight-next S i (omega (arith, held-count)))
 
--- sizes and numbers hold one system
-pub numbers-unique : (S T : System) → map points S ≡ map points T → gather flat S ≡ gather flat T → S ≡ T
-numbers-unique [] [] p q = refl
-numbers-unique [] (d ∷ T) p q = absurd (omega (arith, ap length p))
-numbers-unique (c ∷ S) [] p q = absurd (omega (arith, ap length p))
-numbers-unique (c ∷ S) (d ∷ T) p q =
+-- sizes and trees hold one system
+pub trees-unique : (S T : System) → map points S ≡ map points T → gather flat S ≡ gather flat T → S ≡ T
+trees-unique [] [] p q = refl
+trees-unique [] (d ∷ T) p q = absurd (omega (arith, ap length p))
+trees-unique (c ∷ S) [] p q = absurd (omega (arith, ap length p))
+trees-unique (c ∷ S) (d ∷ T) p q =
     let k : length (flat d) ≡ points c = length-flat d ∙ sym (head-eq-of-cons-eq p) in
     let front : flat c ≡ flat d =
     sym (take-at (flat c) (gather flat S) (points c) (length-flat c)) ∙ ap (take (points c)) q ∙ take-at (flat d) (gather flat T) (points c) k in
     let rest : gather flat S ≡ gather flat T =
     sym (drop-at (flat c) (gather flat S) (points c) (length-flat c)) ∙ ap (drop (points c)) q ∙ drop-at (flat d) (gather flat T) (points c) k in
-    ap₂ _∷_ (flat-injective c d front) (numbers-unique S T (tail-eq-of-cons-eq p) rest)
+    ap₂ _∷_ (flat-injective c d front) (trees-unique S T (tail-eq-of-cons-eq p) rest)
 
-pub held-unique : {S T : System} {sizes numbers : List ℕ} → Holds S sizes numbers → Holds T sizes numbers → S ≡ T
-held-unique {S} {T} h k = numbers-unique S T (sym (h .points-are) ∙ k .points-are) (sym (h .flat-is) ∙ k .flat-is)
+pub held-unique : {S T : System} {sizes trees : List ℕ} → Holds S sizes trees → Holds T sizes trees → S ≡ T
+held-unique {S} {T} h k = trees-unique S T (sym (h .points-are) ∙ k .points-are) (sym (h .flat-is) ∙ k .flat-is)

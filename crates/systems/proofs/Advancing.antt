@@ -19,7 +19,7 @@ use Rattle.system_theory.specs.Step.{fills}
 use Rattle.generation.specs.HeldNodes.{Node, Gave}
 use Rattle.system_theory.specs.Step.{fills}
 use Rattle.memory.specs.Memory.{Holds}
-use Rattle.systems.specs.Held.{sum, fillNumbers, HeldAhead, Advanced}
+use Rattle.systems.specs.Held.{sum, fillTrees, HeldAhead, Advanced}
 use Rattle.systems.proofs.Filling.{flat-fills, fill-here}
 use Rattle.memory.proofs.Parts.{held-points, held-unique}
 
@@ -31,26 +31,26 @@ pub front-length : (k : ℕ) (l m : List ℕ) → length l ≡ k → k ≡ lengt
 front-length k l m e = sym (length-take-le k (l ++ m) (front-fits k l m e))
 
 -- A component in front of others.
-module _ {c : Component} {T : System} {sizes numbers : List ℕ} (h : Holds (c ∷ T) sizes numbers) where
+module _ {c : Component} {T : System} {sizes trees : List ℕ} (h : Holds (c ∷ T) sizes trees) where
   pub ahead-some : 0 < length sizes
   ahead-some = omega (arith, ap length (h .points-are))
 
   pub ahead-size : getD sizes 0 0 ≡ points c
   ahead-size = ap (λ l. getD l 0 0) (h .points-are)
 
-  -- its numbers are the first
-  pub ahead-part : take (getD sizes 0 0) numbers ≡ flat c
+  -- its trees are the first
+  pub ahead-part : take (getD sizes 0 0) trees ≡ flat c
   ahead-part = ap₂ take ahead-size (h .flat-is) ∙ take-at (flat c) (gather flat T) (points c) (length-flat c)
 
-  pub ahead-fits : getD sizes 0 0 ≤ length numbers
+  pub ahead-fits : getD sizes 0 0 ≤ length trees
   ahead-fits = omega (arith, ahead-size, ap length (h .flat-is), length-append (flat c) (gather flat T), length-flat c)
 
-  pub ahead-sum : sum sizes ≡ length numbers
+  pub ahead-sum : sum sizes ≡ length trees
   ahead-sum = ap sum (h .points-are) ∙ total-map (λ s. s) points (c ∷ T) ∙ sym (held-points h)
 
   -- its successor, if there is one, in front of what is filled in to the right of it
   found : validComponent c ≡ true → (o : Option Component) → o ≡ successor c → (r : Bool) (last rest after : List ℕ) → Gave o r last → not r ≡ false
-      → after ≡ gather (fillNumbers (take (getD sizes 0 0) (last ++ rest))) sizes → Advanced o T true numbers after
+      → after ≡ gather (fillTrees (take (getD sizes 0 0) (last ++ rest))) sizes → Advanced o T true trees after
   found v none e true last rest after g f q = absurd (true≢false g)
   found v none e false last rest after g f q = absurd (true≢false f)
   found v (some d) e r last rest after g f q =
@@ -58,23 +58,23 @@ module _ {c : Component} {T : System} {sizes numbers : List ℕ} (h : Holds (c �
       let n : length last ≡ getD sizes 0 0 = ap length (g .1) ∙ length-flat d ∙ p .1 ∙ sym ahead-size in (
         refl,
         q
-            ∙ ap (λ l. gather (fillNumbers l) sizes) (take-at last rest (getD sizes 0 0) n ∙ g .1)
-            ∙ ap (gather (fillNumbers (flat d))) (h .points-are)
+            ∙ ap (λ l. gather (fillTrees l) sizes) (take-at last rest (getD sizes 0 0) n ∙ g .1)
+            ∙ ap (gather (fillTrees (flat d))) (h .points-are)
             ∙ sym (flat-fills d (points c ∷ map points T))
             ∙ ap (gather flat) (sym (fill-here d (points c) (map points T) (p .1))),
       )
 
-  missing : (o : Option Component) → (r : Bool) (last : List ℕ) → Gave o r last → not r ≡ true → Advanced o T false numbers numbers
+  missing : (o : Option Component) → (r : Bool) (last : List ℕ) → Gave o r last → not r ≡ true → Advanced o T false trees trees
   missing none r last g f = (refl, refl)
   missing (some d) true last g f = absurd (true≢false (sym f))
   missing (some d) false last g f = absurd (true≢false (sym (g .0)))
 
-module _ {sizes numbers up side out : List ℕ} (w : HeldAhead sizes numbers up side out) where
-  ahead-short : getD sizes 0 0 ≤ length numbers
+module _ {sizes trees up side out : List ℕ} (w : HeldAhead sizes trees up side out) where
+  ahead-short : getD sizes 0 0 ≤ length trees
   ahead-short = ahead-fits (w .holds)
 
-  pub ahead-length : length (take (getD sizes 0 0) numbers) ≡ getD sizes 0 0
-  ahead-length = length-take-le (getD sizes 0 0) numbers ahead-short
+  pub ahead-length : length (take (getD sizes 0 0) trees) ≡ getD sizes 0 0
+  ahead-length = length-take-le (getD sizes 0 0) trees ahead-short
 
   pub ahead-up : length (take (getD sizes 0 0) up) ≡ getD sizes 0 0
   ahead-up = length-take-le (getD sizes 0 0) up (omega (arith, ahead-short, w .work .up-room))
@@ -85,16 +85,16 @@ module _ {sizes numbers up side out : List ℕ} (w : HeldAhead sizes numbers up 
   pub ahead-out : length (take (getD sizes 0 0) out) ≡ getD sizes 0 0
   ahead-out = length-take-le (getD sizes 0 0) out (omega (arith, ahead-short, w .work .out-room))
 
-  pub ahead-node : Node (take (getD sizes 0 0) numbers)
+  pub ahead-node : Node (take (getD sizes 0 0) trees)
   ahead-node =
       record { trees = w .first; is = ahead-part (w .holds); valid = w .valid; small = omega (arith, ahead-length, ahead-short, w .small) }
 
-  module _ (r : Bool) (last : List ℕ) (g : (c : Component) → take (getD sizes 0 0) numbers ≡ flat c → Gave (successor c) r last) where
-    pub advance-none : not r ≡ true → (c : Component) (T : System) → Holds (c ∷ T) sizes numbers → Advanced (successor c) T false numbers numbers
+  module _ (r : Bool) (last : List ℕ) (g : (c : Component) → take (getD sizes 0 0) trees ≡ flat c → Gave (successor c) r last) where
+    pub advance-none : not r ≡ true → (c : Component) (T : System) → Holds (c ∷ T) sizes trees → Advanced (successor c) T false trees trees
     advance-none f c T h = missing h (successor c) r last (g c (ahead-part h)) f
 
-    pub advance-some : not r ≡ false → (rest after : List ℕ) → after ≡ gather (fillNumbers (take (getD sizes 0 0) (last ++ rest))) sizes
-        → (c : Component) (T : System) → Holds (c ∷ T) sizes numbers → Advanced (successor c) T true numbers after
+    pub advance-some : not r ≡ false → (rest after : List ℕ) → after ≡ gather (fillTrees (take (getD sizes 0 0) (last ++ rest))) sizes
+        → (c : Component) (T : System) → Holds (c ∷ T) sizes trees → Advanced (successor c) T true trees after
     advance-some f rest after q c T h =
         let e : w .first ≡ c = head-eq-of-cons-eq (held-unique (w .holds) h) in
         found h (ap validComponent (sym e) ∙ w .valid) (successor c) refl r last rest after (g c (ahead-part h)) f q

@@ -21,7 +21,7 @@ use Rattle.patterns.proofs.Trees.{length-flat}
 use Rattle.component_theory.proofs.Generation.{cycle-points}
 use Rattle.system_theory.specs.Step.{cycle, fill, fills}
 use Rattle.memory.specs.Memory.{Holds}
-use Rattle.systems.specs.Held.{sum, fillNumbers}
+use Rattle.systems.specs.Held.{sum, fillTrees}
 use Rattle.system_theory.proofs.Firsts.{codes-first}
 
 -- The first system.
@@ -30,18 +30,18 @@ fixed-sizes : (n : ℕ) → map points (replicate n (point ∷ [])) ≡ replicat
 fixed-sizes zero = refl
 fixed-sizes (suc n) = ap (1 ∷_) (fixed-sizes n)
 
-fixed-numbers : (n : ℕ) → gather flat (replicate n (point ∷ [])) ≡ replicate n 1
-fixed-numbers zero = refl
-fixed-numbers (suc n) = ap (1 ∷_) (fixed-numbers n)
+fixed-trees : (n : ℕ) → gather flat (replicate n (point ∷ [])) ≡ replicate n 1
+fixed-trees zero = refl
+fixed-trees (suc n) = ap (1 ∷_) (fixed-trees n)
 
 -- n ones and n ones hold the first code of n points
-pub first-held : (n : ℕ) (sizes numbers : List ℕ) → sizes ≡ replicate n 1 → numbers ≡ replicate n 1
-    → (S : System) → first (codes n) ≡ some S → Holds S sizes numbers
-first-held n sizes numbers p q S e =
+pub first-held : (n : ℕ) (sizes trees : List ℕ) → sizes ≡ replicate n 1 → trees ≡ replicate n 1
+    → (S : System) → first (codes n) ≡ some S → Holds S sizes trees
+first-held n sizes trees p q S e =
     let f : replicate n (point ∷ []) ≡ S = let g = codes-first n in cc in
     record {
       points-are = p ∙ sym (fixed-sizes n) ∙ ap (map points) f;
-      flat-is = q ∙ sym (fixed-numbers n) ∙ ap (gather flat) f;
+      flat-is = q ∙ sym (fixed-trees n) ∙ ap (gather flat) f;
     }
 
 -- Filling.
@@ -50,11 +50,11 @@ pub flat-cycle : (s : ℕ) → flat (cycle s) ≡ replicate s 1
 flat-cycle zero = refl
 flat-cycle (suc s) = ap (1 ∷_) (flat-cycle s)
 
-flat-fill : (d : Component) (s : ℕ) → flat (fill d s) ≡ fillNumbers (flat d) s
+flat-fill : (d : Component) (s : ℕ) → flat (fill d s) ≡ fillTrees (flat d) s
 flat-fill d s = rw (length-flat d) (by-test (eqb (points d) s) (λ e. rw e) (λ e. rw e (flat-cycle s)))
 
--- the numbers of the first way to fill these sizes
-pub flat-fills : (d : Component) (sizes : List ℕ) → gather flat (fills d sizes) ≡ gather (fillNumbers (flat d)) sizes
+-- the trees of the first way to fill these sizes
+pub flat-fills : (d : Component) (sizes : List ℕ) → gather flat (fills d sizes) ≡ gather (fillTrees (flat d)) sizes
 flat-fills d [] = refl
 flat-fills d (s ∷ sizes) = ap₂ _++_ (flat-fill d s) (flat-fills d sizes)
 
@@ -80,18 +80,18 @@ cycles-points [] = refl
 cycles-points (s ∷ sizes) = ap₂ _∷_ (cycle-points s) (cycles-points sizes)
 
 -- as long as the component already
-pub fill-again : (d : List ℕ) (s : ℕ) → length d ≡ s → fillNumbers d s ≡ d
+pub fill-again : (d : List ℕ) (s : ℕ) → length d ≡ s → fillTrees d s ≡ d
 fill-again d s e = rw (eq-eqb (length d) s e)
 
-pub fill-other : (d : List ℕ) (s : ℕ) → (length d ≡ s → ⊥) → fillNumbers d s ≡ replicate s 1
+pub fill-other : (d : List ℕ) (s : ℕ) → (length d ≡ s → ⊥) → fillTrees d s ≡ replicate s 1
 fill-other d s e = rw (ne-eqb (length d) s e)
 
 -- the component copied
-pub fill-copied : (d out after : List ℕ) → length d ≡ length out → after ≡ take (length d) d ++ drop (length d) out → after ≡ fillNumbers d (length out)
+pub fill-copied : (d out after : List ℕ) → length d ≡ length out → after ≡ take (length d) d ++ drop (length d) out → after ≡ fillTrees d (length out)
 fill-copied d out after e f =
     f ∙ ap₂ _++_ (take-length d) (ap (λ k. drop k out) e ∙ drop-length out) ∙ append-nil d ∙ sym (fill-again d (length out) e)
 
-length-fill : (d : List ℕ) (s : ℕ) → length (fillNumbers d s) ≡ s
+length-fill : (d : List ℕ) (s : ℕ) → length (fillTrees d s) ≡ s
 length-fill d s = by-test (eqb (length d) s) (λ e. rw e (eqb-true (length d) s e)) (λ e. rw e (length-replicate s 1))
 
 -- Sizes up to a place.
@@ -105,45 +105,45 @@ sum-part [] (suc i) = omega arith
 sum-part (x ∷ l) zero = omega arith
 sum-part (x ∷ l) (suc i) = omega (arith, sum-part l i)
 
--- The first i of the sizes are filled, up to the place `at` of the numbers.
-pub record Filling (d sizes numbers : List ℕ) (i at : ℕ) : Type 0 where
+-- The first i of the sizes are filled, up to the place `at` of the trees.
+pub record Filling (d sizes trees : List ℕ) (i at : ℕ) : Type 0 where
   pub within : i ≤ length sizes
   pub place : at ≡ sum (take i sizes)
-  pub room : sum sizes ≡ length numbers
-  pub had : take at numbers ≡ gather (fillNumbers d) (take i sizes)
+  pub room : sum sizes ≡ length trees
+  pub had : take at trees ≡ gather (fillTrees d) (take i sizes)
 
-pub filling-start : (d sizes numbers : List ℕ) → sum sizes ≡ length numbers → Filling d sizes numbers 0 0
-filling-start d sizes numbers h = record { within = omega arith; place = refl; room = h; had = refl }
+pub filling-start : (d sizes trees : List ℕ) → sum sizes ≡ length trees → Filling d sizes trees 0 0
+filling-start d sizes trees h = record { within = omega arith; place = refl; room = h; had = refl }
 
-module _ {d sizes numbers : List ℕ} {i at : ℕ} (f : Filling d sizes numbers i at) where
-  -- the next component lies within the numbers
-  pub filling-fits : i < length sizes → at + getD sizes i 0 ≤ length numbers
+module _ {d sizes trees : List ℕ} {i at : ℕ} (f : Filling d sizes trees i at) where
+  -- the next component lies within the trees
+  pub filling-fits : i < length sizes → at + getD sizes i 0 ≤ length trees
   filling-fits h = omega (arith, f .place, f .room, sum-next sizes i h, sum-part sizes (i + 1))
 
   -- one component more
-  pub filling-next : (k : ℕ) (part : List ℕ) → i < length sizes → k ≡ at + getD sizes i 0 → part ≡ fillNumbers d (length (take (k - at) (drop at numbers)))
-      → Filling d sizes (take at numbers ++ (part ++ drop (k - at) (drop at numbers))) (i + 1) k
+  pub filling-next : (k : ℕ) (part : List ℕ) → i < length sizes → k ≡ at + getD sizes i 0 → part ≡ fillTrees d (length (take (k - at) (drop at trees)))
+      → Filling d sizes (take at trees ++ (part ++ drop (k - at) (drop at trees))) (i + 1) k
   filling-next k part h e p =
       let fits = filling-fits h in
-      let len : length (take (k - at) (drop at numbers)) ≡ k - at = length-take-le (k - at) (drop at numbers) (omega (arith, length-drop at numbers)) in
-      let n : length part ≡ k - at = ap length p ∙ length-fill d (length (take (k - at) (drop at numbers))) ∙ len in
-      let front : length (take at numbers) ≡ at = length-take-le at numbers (omega arith) in
+      let len : length (take (k - at) (drop at trees)) ≡ k - at = length-take-le (k - at) (drop at trees) (omega (arith, length-drop at trees)) in
+      let n : length part ≡ k - at = ap length p ∙ length-fill d (length (take (k - at) (drop at trees))) ∙ len in
+      let front : length (take at trees) ≡ at = length-take-le at trees (omega arith) in
       let q : k - at ≡ getD sizes i 0 = omega arith in
-      let joined : length (take at numbers ++ part) ≡ k = omega (arith, length-append (take at numbers) part) in
+      let joined : length (take at trees ++ part) ≡ k = omega (arith, length-append (take at trees) part) in
       record {
         within = omega arith;
         place = omega (arith, f .place, sum-next sizes i h);
         room = f .room ∙ simp (length-append, length-drop) (omega arith);
         had =
-            ap (take k) (sym (append-assoc (take at numbers) part (drop (k - at) (drop at numbers))))
-            ∙ take-at (take at numbers ++ part) (drop (k - at) (drop at numbers)) k joined
-            ∙ ap₂ _++_ (f .had) (p ∙ ap (fillNumbers d) (len ∙ q))
-            ∙ rw (add-one i, take-suc sizes i 0 h, gather-append (fillNumbers d) (take i sizes) (getD sizes i 0 ∷ []), append-nil);
+            ap (take k) (sym (append-assoc (take at trees) part (drop (k - at) (drop at trees))))
+            ∙ take-at (take at trees ++ part) (drop (k - at) (drop at trees)) k joined
+            ∙ ap₂ _++_ (f .had) (p ∙ ap (fillTrees d) (len ∙ q))
+            ∙ rw (add-one i, take-suc sizes i 0 h, gather-append (fillTrees d) (take i sizes) (getD sizes i 0 ∷ []), append-nil);
       }
 
   -- all are filled
-  pub filling-end : length sizes ≤ i → numbers ≡ gather (fillNumbers d) sizes
+  pub filling-end : length sizes ≤ i → trees ≡ gather (fillTrees d) sizes
   filling-end h =
       let e : take i sizes ≡ sizes = take-all i sizes h in
-      let n : length numbers ≤ at = omega (arith, f .room, f .place, ap sum e) in
-      sym (take-all at numbers n) ∙ f .had ∙ ap (gather (fillNumbers d)) e
+      let n : length trees ≤ at = omega (arith, f .room, f .place, ap sum e) in
+      sym (take-all at trees n) ∙ f .had ∙ ap (gather (fillTrees d)) e

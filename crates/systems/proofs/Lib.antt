@@ -1,8 +1,7 @@
 -- The laws of this layer, in plain terms; the proofs of the functions cite them.
+pub mod Checking
 pub mod Filling
 pub mod Growing
-pub mod Checking
-pub mod Writing
-pub mod Scanning
 pub mod Advancing
+pub mod Scanning
 pub mod Stepping

@@ -20,7 +20,7 @@ use Rattle.systems.specs.Held.{HeldAhead, Advanced, HeldCanonical, Bumpe
 use Rattle.system_theory.proofs.Canonical.{canonical-parts}
 use Rattle.system_theory.proofs.StepScan.{bump-pass, bump-at}
 use Rattle.systems.proofs.Filling.{fills-points}
-use Rattle.memory.proofs.Parts.{weight-next, weight-cut, front-numbers, rest-numbers, held-size, held-count, held-points, held-unique}
+use Rattle.memory.proofs.Parts.{weight-next, weight-cut, front-trees, rest-trees, held-size, held-count, held-points, held-unique}
 use Rattle.systems.proofs.Advancing.{advanced-none, advanced-some}
 
 -- The system from a component on.
@@ -34,12 +34,12 @@ rest-sizes (c ∷ S) (suc i) = rest-sizes S i
 to-end : (k : ℕ) (l : List ℕ) → take (length l - k) (drop k l) ≡ drop k l
 to-end k l = take-all (length l - k) (drop k l) (omega (arith, length-drop k l))
 
-rest-held : {S : System} {sizes numbers : List ℕ} → Holds S sizes numbers → (i at : ℕ) → at ≡ weight (take i S)
-    → Holds (drop i S) (take (length sizes - i) (drop i sizes)) (take (length numbers - at) (drop at numbers))
-rest-held {S} {sizes} {numbers} h i at e =
+rest-held : {S : System} {sizes trees : List ℕ} → Holds S sizes trees → (i at : ℕ) → at ≡ weight (take i S)
+    → Holds (drop i S) (take (length sizes - i) (drop i sizes)) (take (length trees - at) (drop at trees))
+rest-held {S} {sizes} {trees} h i at e =
     record {
       points-are = to-end i sizes ∙ ap (drop i) (h .points-are) ∙ rest-sizes S i;
-      flat-is = to-end at numbers ∙ ap₂ drop e (h .flat-is) ∙ rest-numbers S i;
+      flat-is = to-end at trees ∙ ap₂ drop e (h .flat-is) ∙ rest-trees S i;
     }
 
 valid-at : (S : System) (i : ℕ) → each validComponent S ≡ true → i < length S → validComponent (getD S i []) ≡ true
@@ -47,15 +47,15 @@ valid-at [] i v h = absurd (omega arith)
 valid-at (c ∷ S) zero v h = each-head validComponent c S v
 valid-at (c ∷ S) (suc i) v h = valid-at S i (each-tail validComponent c S v) (omega arith)
 
--- From component i on none has a successor; it begins at the place `at` of the numbers.
-pub record Scanning (S : System) (sizes numbers : List ℕ) (i at : ℕ) : Type 0 where
-  pub holds : Holds S sizes numbers
+-- From component i on none has a successor; it begins at the place `at` of the trees.
+pub record Scanning (S : System) (sizes trees : List ℕ) (i at : ℕ) : Type 0 where
+  pub holds : Holds S sizes trees
   pub within : i ≤ length S
   pub place : at ≡ weight (take i S)
   pub nothing : bump (drop i S) ≡ none
 
 -- to the right of all there is none
-scanning-start : {S : System} {sizes numbers : List ℕ} → Holds S sizes numbers → (i at : ℕ) → i ≡ length S → at ≡ weight S → Scanning S sizes numbers i at
+scanning-start : {S : System} {sizes trees : List ℕ} → Holds S sizes trees → (i at : ℕ) → i ≡ length S → at ≡ weight S → Scanning S sizes trees i at
 unfolding bump
 scanning-start {S} h i at e f =
     record {
@@ -66,7 +66,7 @@ scanning-start {S} h i at e f =
     }
 
 -- Component i - 1, the next to the left.
-module _ {S : System} {sizes numbers : List ℕ} {i at : ℕ} (s : Scanning S sizes numbers i at) (k : 0 < i) where
+module _ {S : System} {sizes trees : List ℕ} {i at : ℕ} (s : Scanning S sizes trees i at) (k : 0 < i) where
   left-within : i - 1 < length S
   left-within = omega (arith, s .within)
 
@@ -88,11 +88,11 @@ module _ {S : System} {sizes numbers : List ℕ} {i at : ℕ} (s : Scanning S si
 
   -- it stands in front of the components passed
   left-held : Holds (getD S (i - 1) [] ∷ drop i S) (take (length sizes - (i - 1)) (drop (i - 1) sizes))
-      (take (length numbers - (at - getD sizes (i - 1) 0)) (drop (at - getD sizes (i - 1) 0) numbers))
+      (take (length trees - (at - getD sizes (i - 1) 0)) (drop (at - getD sizes (i - 1) 0) trees))
   left-held = rw left-cut at (rest-held (s .holds) (i - 1) (at - getD sizes (i - 1) 0) left-place)
 
   -- it has no successor
-  scanning-pass : successor (getD S (i - 1) []) ≡ none → Scanning S sizes numbers (i - 1) (at - getD sizes (i - 1) 0)
+  scanning-pass : successor (getD S (i - 1) []) ≡ none → Scanning S sizes trees (i - 1) (at - getD sizes (i - 1) 0)
   scanning-pass e =
       record {
         holds = s .holds;
@@ -105,8 +105,8 @@ module _ {S : System} {sizes numbers : List ℕ} {i at : ℕ} (s : Scanning S si
   scanning-found : (d : Component) (part : List ℕ) → validComponent (getD S (i - 1) []) ≡ true → successor (getD S (i - 1) []) ≡ some d
       → part ≡ gather flat (d ∷ fills d (map points (drop i S)))
       → Bumped (bump S) true sizes
-      (take (at - getD sizes (i - 1) 0) numbers
-      ++ (part ++ drop (length numbers - (at - getD sizes (i - 1) 0)) (drop (at - getD sizes (i - 1) 0) numbers)))
+      (take (at - getD sizes (i - 1) 0) trees
+      ++ (part ++ drop (length trees - (at - getD sizes (i - 1) 0)) (drop (at - getD sizes (i - 1) 0) trees)))
   scanning-found d part v e f =
       let h = s .holds in
       let R = take (i - 1) S in
@@ -114,8 +114,8 @@ module _ {S : System} {sizes numbers : List ℕ} {i at : ℕ} (s : Scanning S si
       let T = drop i S in
       let from = at - getD sizes (i - 1) 0 in
       let cut : S ≡ R ++ (c ∷ T) = sym (take-append-drop (i - 1) S) ∙ ap (R ++_) left-cut in
-      let none-left : drop (length numbers - from) (drop from numbers) ≡ [] =
-      drop-of-length-le (drop from numbers) {i = length numbers - from} (omega (arith, length-drop from numbers)) in
+      let none-left : drop (length trees - from) (drop from trees) ≡ [] =
+      drop-of-length-le (drop from trees) {i = length trees - from} (omega (arith, length-drop from trees)) in
       let q = successor-valid c d v e in
       rw (ap bump cut ∙ bump-at R c d T (s .nothing) e) (
         refl,
@@ -125,7 +125,7 @@ module _ {S : System} {sizes numbers : List ℕ} {i at : ℕ} (s : Scanning S si
               ∙ ap (map points R ++_) (ap₂ _∷_ (sym (q .1)) (sym (fills-points d (map points T))))
               ∙ sym (map-append points R (d ∷ fills d (map points T)));
           flat-is =
-              ap₂ (λ a b. a ++ (part ++ b)) (ap₂ take left-place (h .flat-is) ∙ front-numbers S (i - 1)) none-left
+              ap₂ (λ a b. a ++ (part ++ b)) (ap₂ take left-place (h .flat-is) ∙ front-trees S (i - 1)) none-left
               ∙ ap (gather flat R ++_) (append-nil part ∙ f)
               ∙ sym (gather-append flat R (d ∷ fills d (map points T)));
         },
@@ -136,19 +136,19 @@ module _ {sizes before up₀ side₀ out₀ : List ℕ} (w : HeldCanonical sizes
   pub bump-start : (S : System) → Holds S sizes before → Scanning S sizes before (length sizes) (length before)
   bump-start S h = scanning-start h (length sizes) (length before) (held-count h) (held-points h)
 
-  valid-left : {numbers : List ℕ} {i at : ℕ} (S : System) → Holds S sizes before → Scanning S sizes numbers i at → 0 < i → validComponent (getD S (i - 1) []) ≡ true
+  valid-left : {trees : List ℕ} {i at : ℕ} (S : System) → Holds S sizes before → Scanning S sizes trees i at → 0 < i → validComponent (getD S (i - 1) []) ≡ true
   valid-left {i = i} S h s k =
       valid-at S (i - 1) (ap (each validComponent) (sym (held-unique (w .holds) h)) ∙ canonical-parts (w .system) (w .canonical-is) .0) (left-within s k)
 
-  module _ {numbers : List ℕ} {i at : ℕ} (f : (S : System) → Holds S sizes before → Scanning S sizes numbers i at) where
-    here : Scanning (w .system) sizes numbers i at
+  module _ {trees : List ℕ} {i at : ℕ} (f : (S : System) → Holds S sizes before → Scanning S sizes trees i at) where
+    here : Scanning (w .system) sizes trees i at
     here = f (w .system) (w .holds)
 
-    pub bump-same : length numbers ≡ length before
+    pub bump-same : length trees ≡ length before
     bump-same = held-points (here .holds) ∙ sym (held-points (w .holds))
 
     -- no component has a successor
-    pub bump-end : i ≤ 0 → (S : System) → Holds S sizes before → Bumped (bump S) false sizes numbers
+    pub bump-end : i ≤ 0 → (S : System) → Holds S sizes before → Bumped (bump S) false sizes trees
     bump-end k S h =
         let z : i ≡ 0 = omega arith in
         let e : bump S ≡ none = rw z at (f S h .nothing) in
@@ -161,19 +161,19 @@ module _ {sizes before up₀ side₀ out₀ : List ℕ} (w : HeldCanonical sizes
       pub bump-size : getD sizes (i - 1) 0 ≤ at
       bump-size = left-size here k
 
-      pub bump-place : at - getD sizes (i - 1) 0 ≤ length numbers
+      pub bump-place : at - getD sizes (i - 1) 0 ≤ length trees
       bump-place = omega (arith, here .place, weight-cut (w .system) i, held-points (here .holds))
 
       pub bump-ahead : (up side out : List ℕ) → length up ≡ length up₀ → length side ≡ length side₀ → length out ≡ length out₀
           → HeldAhead (take (length sizes - (i - 1)) (drop (i - 1) sizes))
-          (take (length numbers - (at - getD sizes (i - 1) 0)) (drop (at - getD sizes (i - 1) 0) numbers)) up side out
+          (take (length trees - (at - getD sizes (i - 1) 0)) (drop (at - getD sizes (i - 1) 0) trees)) up side out
       bump-ahead up side out p q r =
-          let short : length (take (length numbers - (at - getD sizes (i - 1) 0)) (drop (at - getD sizes (i - 1) 0) numbers)) ≤ length before =
+          let short : length (take (length trees - (at - getD sizes (i - 1) 0)) (drop (at - getD sizes (i - 1) 0) trees)) ≤ length before =
           omega (
             arith,
             bump-same,
-            length-take (length numbers - (at - getD sizes (i - 1) 0)) (drop (at - getD sizes (i - 1) 0) numbers),
-            length-drop (at - getD sizes (i - 1) 0) numbers,
+            length-take (length trees - (at - getD sizes (i - 1) 0)) (drop (at - getD sizes (i - 1) 0) trees),
+            length-drop (at - getD sizes (i - 1) 0) trees,
           ) in
           record {
             first = getD (w .system) (i - 1) [];
@@ -192,28 +192,28 @@ module _ {sizes before up₀ side₀ out₀ : List ℕ} (w : HeldCanonical sizes
       pub bump-next : (r : Bool) (part : List ℕ)
           → ((c : Component) (T : System)
           → Holds (c ∷ T) (take (length sizes - (i - 1)) (drop (i - 1) sizes))
-          (take (length numbers - (at - getD sizes (i - 1) 0)) (drop (at - getD sizes (i - 1) 0) numbers))
-          → Advanced (successor c) T r (take (length numbers - (at - getD sizes (i - 1) 0)) (drop (at - getD sizes (i - 1) 0) numbers)) part)
+          (take (length trees - (at - getD sizes (i - 1) 0)) (drop (at - getD sizes (i - 1) 0) trees))
+          → Advanced (successor c) T r (take (length trees - (at - getD sizes (i - 1) 0)) (drop (at - getD sizes (i - 1) 0) trees)) part)
           → r ≡ false → (S : System) → Holds S sizes before
           → Scanning S sizes
-          (take (at - getD sizes (i - 1) 0) numbers
-          ++ (part ++ drop (length numbers - (at - getD sizes (i - 1) 0)) (drop (at - getD sizes (i - 1) 0) numbers)))
+          (take (at - getD sizes (i - 1) 0) trees
+          ++ (part ++ drop (length trees - (at - getD sizes (i - 1) 0)) (drop (at - getD sizes (i - 1) 0) trees)))
           (i - 1) (at - getD sizes (i - 1) 0)
       bump-next r part a e S h =
           let s = f S h in
           let from = at - getD sizes (i - 1) 0 in
           let q = advanced-none (successor (getD S (i - 1) [])) (drop i S) _ part (rw e at (a (getD S (i - 1) []) (drop i S) (left-held s k))) in
-          rw (q .1, take-append-drop (length numbers - from) (drop from numbers), take-append-drop from numbers) (scanning-pass s k (q .0))
+          rw (q .1, take-append-drop (length trees - from) (drop from trees), take-append-drop from trees) (scanning-pass s k (q .0))
 
       pub bump-found : (r : Bool) (part : List ℕ)
           → ((c : Component) (T : System)
           → Holds (c ∷ T) (take (length sizes - (i - 1)) (drop (i - 1) sizes))
-          (take (length numbers - (at - getD sizes (i - 1) 0)) (drop (at - getD sizes (i - 1) 0) numbers))
-          → Advanced (successor c) T r (take (length numbers - (at - getD sizes (i - 1) 0)) (drop (at - getD sizes (i - 1) 0) numbers)) part)
+          (take (length trees - (at - getD sizes (i - 1) 0)) (drop (at - getD sizes (i - 1) 0) trees))
+          → Advanced (successor c) T r (take (length trees - (at - getD sizes (i - 1) 0)) (drop (at - getD sizes (i - 1) 0) trees)) part)
           → r ≡ true → (S : System) → Holds S sizes before
           → Bumped (bump S) true sizes
-          (take (at - getD sizes (i - 1) 0) numbers
-          ++ (part ++ drop (length numbers - (at - getD sizes (i - 1) 0)) (drop (at - getD sizes (i - 1) 0) numbers)))
+          (take (at - getD sizes (i - 1) 0) trees
+          ++ (part ++ drop (length trees - (at - getD sizes (i - 1) 0)) (drop (at - getD sizes (i - 1) 0) trees)))
       bump-found r part a e S h =
           let s = f S h in
           let q = advanced-some (successor (getD S (i - 1) [])) (drop i S) _ part (rw e at (a (getD S (i - 1) []) (drop i S) (left-held s k))) in

@@ -30,13 +30,13 @@ positive h upward-nil = refl
 positive h (upward-cons {b = b} {l = l} k u) = each-cons (ltb 0) {x = b} l (lt-ltb 0 b (omega arith)) (positive (omega arith) u)
 
 -- what the search for a component with a successor says, by its answer
-bumped-some : (o : Option System) (sizes numbers : List ℕ) → Bumped o true sizes numbers → (T : System) × (o ≡ some T) × Holds T sizes numbers
-bumped-some none sizes numbers b = absurd (true≢false b)
-bumped-some (some T) sizes numbers b = (T, refl, b .1)
+bumped-some : (o : Option System) (sizes trees : List ℕ) → Bumped o true sizes trees → (T : System) × (o ≡ some T) × Holds T sizes trees
+bumped-some none sizes trees b = absurd (true≢false b)
+bumped-some (some T) sizes trees b = (T, refl, b .1)
 
-bumped-none : (o : Option System) (sizes numbers : List ℕ) → Bumped o false sizes numbers → o ≡ none
-bumped-none none sizes numbers b = refl
-bumped-none (some T) sizes numbers b = absurd (true≢false (sym (b .0)))
+bumped-none : (o : Option System) (sizes trees : List ℕ) → Bumped o false sizes trees → o ≡ none
+bumped-none none sizes trees b = refl
+bumped-none (some T) sizes trees b = absurd (true≢false (sym (b .0)))
 
 -- what the next size list says, by its length
 next-last : (o : Option (List ℕ)) (sizes : List ℕ) → NextIn o 0 sizes → o ≡ none
@@ -47,11 +47,11 @@ next-some : (o : Option (List ℕ)) (k : ℕ) (sizes : List ℕ) → NextIn o k 
 next-some none k sizes n h = absurd (h n)
 next-some (some l) k sizes n h = (l, refl, n .1, n .2)
 
-module _ {sizes : List ℕ} {m : ℕ} {numbers up side out : List ℕ} (w : HeldStep sizes m numbers up side out) where
+module _ {sizes : List ℕ} {m : ℕ} {trees up side out : List ℕ} (w : HeldStep sizes m trees up side out) where
   pub step-count : m ≡ length (take m sizes)
   step-count = sym (length-take-le m sizes (w .within))
 
-  pub step-held : HeldCanonical (take m sizes) numbers up side out
+  pub step-held : HeldCanonical (take m sizes) trees up side out
   step-held =
       record {
         system = w .system;
@@ -72,9 +72,9 @@ module _ {sizes : List ℕ} {m : ℕ} {numbers up side out : List ℕ} (w : Held
         small = w .small;
       }
 
-  module _ (r : Bool) (after : List ℕ) (f : (S : System) → Holds S (take m sizes) numbers → Bumped (bump S) r (take m sizes) after) where
+  module _ (r : Bool) (after : List ℕ) (f : (S : System) → Holds S (take m sizes) trees → Bumped (bump S) r (take m sizes) after) where
     -- with the same sizes
-    pub step-same : r ≡ true → (S : System) → Holds S (take m sizes) numbers → SteppedTo (step S) (Next m) sizes after
+    pub step-same : r ≡ true → (S : System) → Holds S (take m sizes) trees → SteppedTo (step S) (Next m) sizes after
     step-same e S h =
         let b = bumped-some (bump S) (take m sizes) after (rw e at (f S h)) in
         let n : m ≡ length (b .0) = step-count ∙ held-count (b .2) in
@@ -83,16 +83,16 @@ module _ {sizes : List ℕ} {m : ℕ} {numbers up side out : List ℕ} (w : Held
 
     module _ (e : r ≡ false) (k : ℕ) (sizes′ : List ℕ) (q : NextIn (nextSizes (take m sizes)) k sizes′) where
       -- there is no next size list
-      pub step-ends : k ≡ 0 → (numbers′ : List ℕ) → (S : System) → Holds S (take m sizes) numbers → SteppedTo (step S) Last sizes′ numbers′
-      step-ends z numbers′ S h =
+      pub step-ends : k ≡ 0 → (trees′ : List ℕ) → (S : System) → Holds S (take m sizes) trees → SteppedTo (step S) Last sizes′ trees′
+      step-ends z trees′ S h =
           let b = bumped-none (bump S) (take m sizes) after (rw e at (f S h)) in
           let n : nextSizes (map points S) ≡ none = ap nextSizes (sym (h .points-are)) ∙ next-last (nextSizes (take m sizes)) sizes′ (rw z at q) in
           rw (step-none S b n) refl
 
       -- all cycles
-      pub step-cycles : (k ≡ 0 → ⊥) → length after ≡ length numbers → (numbers′ : List ℕ) → numbers′ ≡ replicate (length after) 1
-          → (S : System) → Holds S (take m sizes) numbers → SteppedTo (step S) (Next k) sizes′ numbers′
-      step-cycles z len numbers′ o S h =
+      pub step-cycles : (k ≡ 0 → ⊥) → length after ≡ length trees → (trees′ : List ℕ) → trees′ ≡ replicate (length after) 1
+          → (S : System) → Holds S (take m sizes) trees → SteppedTo (step S) (Next k) sizes′ trees′
+      step-cycles z len trees′ o S h =
           let b = bumped-none (bump S) (take m sizes) after (rw e at (f S h)) in
           let n = next-some (nextSizes (take m sizes)) k sizes′ q z in
           let l : List ℕ = n .0 in

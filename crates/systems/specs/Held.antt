@@ -1,9 +1,9 @@
--- What the functions of this crate ask of lent slices, and what their answers mean. A system in memory is two slices (`Holds` of crate reading).
+-- What the functions of this crate ask of lent slices, and what their answers mean. A system in memory is two slices (`Holds` of crate memory).
 use mathlib.Core.Path.{_≡_}
 use mathlib.Core.Bool.{Bool, true, false, cond}
 use mathlib.Core.List.{List, _∷_, map}
 use mathlib.Core.Option.{Option, none, some}
-use Prim.Native.Nat.{ℕ, _+_, _*_, _≤_, _<_}
+use Prim.Native.Nat.{ℕ, _≤_, _<_}
 use lib.Dec.{ltb, eqb}
 use lib.ListN.{length, take, replicate}
 use Rattle.lists.specs.Select.{each, gather, total}
@@ -29,45 +29,24 @@ abbrev pub NextIn : Option (List ℕ) → ℕ → List ℕ → Type 0
 NextIn none r sizes = r ≡ 0
 NextIn (some l) r sizes = (0 < r) × (r ≤ length sizes) × (take r sizes ≡ l)
 
--- the numbers of a component of s points to the right of the one with the numbers d: these again, or where they are not s the cycle's
-abbrev pub fillNumbers : List ℕ → ℕ → List ℕ
-fillNumbers d s = cond (eqb (length d) s) d (replicate s 1)
+-- the trees of a component of s points to the right of the one with the trees d: these again, or where they have not s points the cycle's
+abbrev pub fillTrees : List ℕ → ℕ → List ℕ
+fillTrees d s = cond (eqb (length d) s) d (replicate s 1)
 
--- the first r places hold l
-pub record Wrote (l : List ℕ) (r : ℕ) (out : List ℕ) : Type 0 where
-  pub end : r ≡ length l
-  pub fits : r ≤ length out
-  pub is : take r out ≡ l
-
--- a component of at most 200 points, and room from `at` on for two bytes for each of its numbers
-pub record HeldRoom (s out : List ℕ) (at : ℕ) : Type 0 where
-  pub trees : Component
-  pub is : s ≡ flat trees
-  pub small : length s ≤ 200
-  pub room : at + (2 + (length s + length s)) ≤ length out
-
--- a system of at most 200 components and 200 points, and room from `at` on for two bytes for each of its numbers
-pub record HeldWritable (sizes numbers out : List ℕ) (at : ℕ) : Type 0 where
-  pub system : System
-  pub holds : Holds system sizes numbers
-  pub few : length sizes ≤ 200
-  pub small : length numbers ≤ 200
-  pub room : at + 2 * (length sizes + length numbers) ≤ length out
-
--- slices for work, of at least n numbers each
+-- slices for work, of at least n places each
 pub record Work (n : ℕ) (up side out : List ℕ) : Type 0 where
   pub up-room : n ≤ length up
   pub side-room : n ≤ length side
   pub out-room : n ≤ length out
 
 -- a valid component in front of others, of at most 200 points in all
-pub record HeldAhead (sizes numbers up side out : List ℕ) : Type 0 where
+pub record HeldAhead (sizes trees up side out : List ℕ) : Type 0 where
   pub first : Component
   pub rest : System
-  pub holds : Holds (first ∷ rest) sizes numbers
+  pub holds : Holds (first ∷ rest) sizes trees
   pub valid : validComponent first ≡ true
-  pub small : length numbers ≤ 200
-  pub work : Work (length numbers) up side out
+  pub small : length trees ≤ 200
+  pub work : Work (length trees) up side out
 
 -- d, if there is one, in front of what is filled in to the right of it; r says whether there is, and where there is none nothing has changed
 abbrev pub Advanced : Option Component → System → Bool → List ℕ → List ℕ → Type 0
@@ -75,29 +54,29 @@ Advanced none T r before after = (r ≡ false) × (after ≡ before)
 Advanced (some d) T r before after = (r ≡ true) × (after ≡ gather flat (d ∷ fills d (map points T)))
 
 -- a canonical system of at most 200 points
-pub record HeldCanonical (sizes numbers up side out : List ℕ) : Type 0 where
+pub record HeldCanonical (sizes trees up side out : List ℕ) : Type 0 where
   pub system : System
-  pub holds : Holds system sizes numbers
+  pub holds : Holds system sizes trees
   pub canonical-is : canonical system ≡ true
-  pub small : length numbers ≤ 200
-  pub work : Work (length numbers) up side out
+  pub small : length trees ≤ 200
+  pub work : Work (length trees) up side out
 
 -- the next system with the same sizes, if there is one, and r says whether there is
 abbrev pub Bumped : Option System → Bool → List ℕ → List ℕ → Type 0
-Bumped none r sizes numbers = r ≡ false
-Bumped (some T) r sizes numbers = (r ≡ true) × Holds T sizes numbers
+Bumped none r sizes trees = r ≡ false
+Bumped (some T) r sizes trees = (r ≡ true) × Holds T sizes trees
 
 -- a canonical system, its sizes in the first m of at most 200 places, which are enough for the sizes of any system of as many points
-pub record HeldStep (sizes : List ℕ) (m : ℕ) (numbers up side out : List ℕ) : Type 0 where
+pub record HeldStep (sizes : List ℕ) (m : ℕ) (trees up side out : List ℕ) : Type 0 where
   pub system : System
-  pub holds : Holds system (take m sizes) numbers
+  pub holds : Holds system (take m sizes) trees
   pub canonical-is : canonical system ≡ true
   pub within : m ≤ length sizes
-  pub room : length numbers ≤ length sizes
+  pub room : length trees ≤ length sizes
   pub small : length sizes ≤ 200
-  pub work : Work (length numbers) up side out
+  pub work : Work (length trees) up side out
 
 -- the next system, if there is one, with its sizes in the first places
 abbrev pub SteppedTo : Option System → Stepped → List ℕ → List ℕ → Type 0
-SteppedTo none r sizes numbers = r ≡ Last
-SteppedTo (some T) r sizes numbers = (r ≡ Next (length T)) × Holds T (take (length T) sizes) numbers
+SteppedTo none r sizes trees = r ≡ Last
+SteppedTo (some T) r sizes trees = (r ≡ Next (length T)) × Holds T (take (length T) sizes) trees

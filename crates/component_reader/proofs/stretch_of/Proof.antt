@@ -41,8 +41,8 @@ slice-aggregate-stretch-in c =
     let taken = code-taken (now (c .before .before .before .before .before .before .before .before .before .before .before .before .args .code)) (c .before .before .before .before .before .before .accept-into .ensures) (given .0 .0) (given .0 .1 .0) (given .1) in
     sym (length-take-le _ _ (taken-count taken))
 
-array-share-prefix-numbers : tie.Need-array-share-prefix-numbers
-array-share-prefix-numbers c =
+array-share-prefix-trees : tie.Need-array-share-prefix-trees
+array-share-prefix-trees c =
     let given = c .before .before .m .given in
     let taken = code-taken (now (c .before .before .before .before .before .before .before .before .before .before .before .before .args .code)) (c .before .before .before .before .before .before .accept-into .ensures) (given .0 .0) (given .0 .1 .0) (given .1) in
     taken-points taken
@@ -85,7 +85,7 @@ stretch-of-spec =
     enum-known-m
     array-share-prefix-sizes
     slice-aggregate-stretch-in
-    array-share-prefix-numbers
+    array-share-prefix-trees
     slice-aggregate-stretch-in-2
     stretch-in-requires
     returns

@@ -10,14 +10,14 @@ use Rattle.systems.proofs.bump.Statement.{statement}
 use Rattle.systems.proofs.bump.Tie as tie
 
 abbrev Inv-loop : tie.InvT-loop
-Inv-loop sizes numbers₀ up₀ side₀ out₀ i₀ at₀ numbers up side out i at =
+Inv-loop sizes trees₀ up₀ side₀ out₀ i₀ at₀ trees up side out i at =
     (length up ≡ length up₀)
     × (length side ≡ length side₀)
     × (length out ≡ length out₀)
-    × ((S : System) → Holds S sizes numbers₀ → Scanning S sizes numbers i at)
+    × ((S : System) → Holds S sizes trees₀ → Scanning S sizes trees i at)
 
 abbrev μ-loop : tie.MeasureT-loop
-μ-loop sizes numbers₀ up₀ side₀ out₀ i₀ at₀ numbers up side out i at = i
+μ-loop sizes trees₀ up₀ side₀ out₀ i₀ at₀ trees up side out i at = i
 
 loop-holds : tie.Need-loop-holds Inv-loop μ-loop
 loop-holds c = (refl, refl, refl, bump-start (c .before .before .before .before .before .pre))
@@ -72,7 +72,7 @@ advance-requires c κs =
 same-length : tie.Need-same-length Inv-loop μ-loop
 same-length c =
     let l = c .before .before .before .before .before .before .before .before .before .before .before .before .before .before .before .before .before in
-    c .before .before .before .before .before .before .before .before .numbers .given .1 ∙ bump-same (l .before .before .before .before .before .before .pre) (l .loop .inv .3)
+    c .before .before .before .before .before .before .before .before .trees .given .1 ∙ bump-same (l .before .before .before .before .before .before .pre) (l .loop .inv .3)
 
 same-length-2 : tie.Need-same-length-2 Inv-loop μ-loop
 same-length-2 c =

@@ -9,16 +9,16 @@ use Rattle.systems.proofs.fill_right.Statement.{statement}
 use Rattle.systems.proofs.fill_right.Tie as tie
 
 abbrev Inv-loop : tie.InvT-loop
-Inv-loop d sizes numbers₀ i₀ at₀ numbers i at = Filling d sizes numbers i at
+Inv-loop d sizes trees₀ i₀ at₀ trees i at = Filling d sizes trees i at
 
 abbrev μ-loop : tie.MeasureT-loop
-μ-loop d sizes numbers₀ i₀ at₀ numbers i at = length sizes - i
+μ-loop d sizes trees₀ i₀ at₀ trees i at = length sizes - i
 
 loop-holds : tie.Need-loop-holds Inv-loop μ-loop
 loop-holds c =
     let start = c .before .before .before in
     let a = start .args in
-    filling-start (now (a .d)) (now (a .sizes)) (now (a .numbers)) (start .pre)
+    filling-start (now (a .d)) (now (a .sizes)) (now (a .trees)) (start .pre)
 
 shared-slice-read-end : tie.Need-shared-slice-read-end Inv-loop μ-loop
 shared-slice-read-end c = search needs

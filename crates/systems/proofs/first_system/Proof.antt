@@ -22,8 +22,8 @@ returns : tie.Need-returns
 returns c =
     let start = c .before .before .before .before .before .before .before .before .before .before in
     let n = length (now (start .args .sizes)) in
-    let all-numbers = c .before .before .set-all2 .ensures ∙ ap (λ k. replicate k 1) (sym (start .pre)) in
-    λ S e. first-held n _ _ (c .before .before .before .before .before .before .set-all .ensures) all-numbers S e
+    let all-trees = c .before .before .set-all2 .ensures ∙ ap (λ k. replicate k 1) (sym (start .pre)) in
+    λ S e. first-held n _ _ (c .before .before .before .before .before .before .set-all .ensures) all-trees S e
 
 pub first-system-spec : {M : Type 1} → statement M
 first-system-spec =

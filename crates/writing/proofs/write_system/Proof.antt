@@ -1,7 +1,7 @@
-use Rattle.systems.proofs.Writing.{points-fit, count-fits, components-fit, system-written}
+use Rattle.writing.proofs.Placements.{points-fit, count-fits, components-fit, system-written}
 use borrow.Author.Needs.{needs}
-use Rattle.systems.proofs.write_system.Statement.{statement}
-use Rattle.systems.proofs.write_system.Tie as tie
+use Rattle.writing.proofs.write_system.Statement.{statement}
+use Rattle.writing.proofs.write_system.Tie as tie
 
 put-number-requires : tie.Need-put-number-requires
 put-number-requires c κs = points-fit (c .before .before .before .before .pre)

@@ -1,21 +1,21 @@
-use Prim.Native.Nat.{_-_, _≤_}
+use Prim.Native.Nat.{_-_}
 use native.Mathlib.Omega.{arith}
 use borrow.Author.Needs.{needs}
 use lib.ListN.{length}
 use Rattle.patterns.specs.System.{System}
 use Rattle.memory.specs.Memory.{Holds}
-use Rattle.systems.proofs.Writing.{Writing, system-start, system-same, system-to, system-room, system-next, system-end}
-use Rattle.systems.proofs.write_components.Statement.{statement}
-use Rattle.systems.proofs.write_components.Tie as tie
+use Rattle.writing.proofs.Placements.{Writing, system-start, system-same, system-to, system-room, system-next, system-end}
+use Rattle.writing.proofs.write_components.Statement.{statement}
+use Rattle.writing.proofs.write_components.Tie as tie
 
 abbrev Inv-loop : tie.InvT-loop
-Inv-loop sizes numbers out₀ at i₀ from₀ next₀ out i from next = (i ≤ length sizes) × ((S : System) → Holds S sizes numbers → Writing S out₀ at out i from next)
+Inv-loop sizes trees out₀ at i₀ from₀ next₀ out i from next = (S : System) → Holds S sizes trees → Writing S out₀ at out i from next
 
 abbrev μ-loop : tie.MeasureT-loop
-μ-loop sizes numbers out₀ at i₀ from₀ next₀ out i from next = length sizes - i
+μ-loop sizes trees out₀ at i₀ from₀ next₀ out i from next = length sizes - i
 
 loop-holds : tie.Need-loop-holds Inv-loop μ-loop
-loop-holds c = (omega arith, system-start (c .before .before .before .pre))
+loop-holds c = system-start (c .before .before .before .pre)
 
 shared-slice-read-to : tie.Need-shared-slice-read-to Inv-loop μ-loop
 shared-slice-read-to c = search needs
@@ -26,7 +26,7 @@ cast-to c = omega (arith, c .shared-slice-known3 .given (c .before .before .loop
 add-to : tie.Need-add-to Inv-loop μ-loop
 add-to c =
     let l = c .before .before in
-    omega (arith, system-to (l .before .before .before .before .pre) (l .loop .inv .1) (omega arith))
+    omega (arith, system-to (l .before .before .before .before .pre) (l .loop .inv) (omega arith))
 
 sub-write-component : tie.Need-sub-write-component Inv-loop μ-loop
 sub-write-component c = search needs
@@ -37,12 +37,12 @@ part-write-component-start c = search needs
 part-write-component-end : tie.Need-part-write-component-end Inv-loop μ-loop
 part-write-component-end c =
     let l = c .before .before in
-    system-to (l .before .before .before .before .pre) (l .loop .inv .1) (omega arith)
+    system-to (l .before .before .before .before .pre) (l .loop .inv) (omega arith)
 
 write-component-requires : tie.Need-write-component-requires Inv-loop μ-loop
 write-component-requires c κs =
     let l = c .before .before .before .before in
-    system-room (l .before .before .before .before .pre) (l .loop .inv .1) (omega arith)
+    system-room (l .before .before .before .before .pre) (l .loop .inv) (omega arith)
 
 add-i : tie.Need-add-i Inv-loop μ-loop
 add-i c = search needs
@@ -53,17 +53,17 @@ loop-less c = search needs
 loop-again : tie.Need-loop-again Inv-loop μ-loop
 loop-again c =
     let l = c .before .before .before .before .before .before .before in
-    (omega arith, system-next (l .before .before .before .before .pre) (l .loop .inv .1) (omega arith) _ _ (c .before .before .write-component .ensures))
+    system-next (l .before .before .before .before .pre) (l .loop .inv) (omega arith) _ _ (c .before .before .write-component .ensures)
 
 same-length : tie.Need-same-length Inv-loop μ-loop
 same-length c =
     let l = c .before in
-    system-same (l .before .before .before .before .pre) (l .loop .inv .1) (omega arith)
+    system-same (l .before .before .before .before .pre) (l .loop .inv)
 
 returns : tie.Need-returns Inv-loop μ-loop
 returns c =
     let l = c .before in
-    system-end (l .before .before .before .before .pre) (l .loop .inv .1) (omega arith)
+    system-end (l .before .before .before .before .pre) (l .loop .inv) (omega arith)
 
 pub write-components-spec : {M : Type 1} → statement M
 write-components-spec =

@@ -2,10 +2,10 @@ use denote.Ref.{now}
 use Prim.Native.Nat.{_-_}
 use native.Mathlib.Omega.{arith}
 use borrow.Author.Needs.{needs}
-use lib.ListN.{length, getD}
-use Rattle.systems.proofs.Writing.{Numbering, numbering-start, numbering-same, numbering-fits, numbering-next, numbering-end}
-use Rattle.systems.proofs.write_numbers.Statement.{statement}
-use Rattle.systems.proofs.write_numbers.Tie as tie
+use lib.ListN.{length}
+use Rattle.writing.proofs.Placements.{Numbering, numbering-start, numbering-same, numbering-fits, numbering-next, numbering-end}
+use Rattle.writing.proofs.write_numbers.Statement.{statement}
+use Rattle.writing.proofs.write_numbers.Tie as tie
 
 abbrev Inv-loop : tie.InvT-loop
 Inv-loop s out₀ at i₀ next₀ out i next = Numbering s out₀ at out i next
@@ -25,8 +25,7 @@ cast-put-number c = omega (arith, c .shared-slice-known2 .given (c .before .befo
 put-number-requires : tie.Need-put-number-requires Inv-loop μ-loop
 put-number-requires c κs =
     let l = c .before .before .before .loop in
-    let s = now (c .before .before .before .before .before .before .args .s) in
-    (omega (arith, c .before .shared-slice-known2 .given (l .i)), numbering-fits (l .inv) (getD s (l .i) 0) (omega arith))
+    (omega (arith, c .before .shared-slice-known2 .given (l .i)), numbering-fits (l .inv) (omega arith))
 
 add-i : tie.Need-add-i Inv-loop μ-loop
 add-i c = search needs

@@ -1,6 +1,6 @@
 use borrow.Author.Tests.{lt-ltb, le-ltb}
-use Rattle.component_reader.proofs.width.Statement.{statement}
-use Rattle.component_reader.proofs.width.Tie as tie
+use Rattle.writing.proofs.width.Statement.{statement}
+use Rattle.writing.proofs.width.Tie as tie
 
 returns : tie.Need-returns
 returns c = simp (lt-ltb _ _ (c .if1 .taken))

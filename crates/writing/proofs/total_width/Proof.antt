@@ -6,9 +6,9 @@ use borrow.Author.Needs.{needs}
 use lib.ListN.{length, take, getD}
 use Rattle.patterns.specs.Written.{bytes}
 use Rattle.form_theory.proofs.Numbers.{write-length}
-use Rattle.component_reader.proofs.Widths.{widths-next, widths-fit, widths-all}
-use Rattle.component_reader.proofs.total_width.Statement.{statement}
-use Rattle.component_reader.proofs.total_width.Tie as tie
+use Rattle.form_theory.proofs.Widths.{widths-next, widths-fit, widths-all}
+use Rattle.writing.proofs.total_width.Statement.{statement}
+use Rattle.writing.proofs.total_width.Tie as tie
 
 abbrev Inv-loop : tie.InvT-loop
 Inv-loop s sum₀ i₀ sum i = (i ≤ length s) × (sum ≡ length (bytes (take i s)))

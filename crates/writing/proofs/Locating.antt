@@ -1,0 +1,101 @@
+-- Where the components of a system in memory begin in its written code: one component after another, as far as their bytes reach.
+use mathlib.Core.Path.{_≡_, refl, ap, sym, _∙_}
+use mathlib.Core.List.{List, []}
+use Prim.Native.Nat.{ℕ, _+_, _-_, _≤_, _<_}
+use native.Mathlib.Omega.{arith}
+use borrow.Author.Tests.{lt-ltb, le-ltb}
+use lib.ListN.{length, take, drop, getD, length-append}
+use Rattle.lists.proofs.Tests.{cond-true, cond-false}
+use Rattle.patterns.specs.Component.{Component, flat}
+use Rattle.patterns.specs.System.{System, weight}
+use Rattle.patterns.specs.Written.{componentNumbers, writeNumber, bytes, written, startOf}
+use Rattle.patterns.specs.Reading.{done}
+use Rattle.patterns.specs.Replies.{part-is, part-refused}
+use Rattle.patterns.specs.Entry.{partAnswered, componentIn}
+use Rattle.patterns.proofs.Trees.{length-flat}
+use Rattle.memory.specs.Memory.{Held, Holds, HeldSystem}
+use Rattle.memory.proofs.Parts.{part-fits, held-count, held-points, held-fits, held-part, held-next}
+use Rattle.form_theory.proofs.Numbers.{bytes-length, write-length}
+use Rattle.form_theory.proofs.Stretches.{start-first, start-after, start-last, start-within, written-short}
+use Rattle.writing.specs.Writable.{HeldComponent}
+
+-- One component: the number of its trees, then their codes.
+module _ {s : List ℕ} (w : HeldComponent s) where
+  pub component-held : Held s
+  component-held = record { trees = w .trees; is = w .is }
+
+  module _ (k front rest : ℕ) (p : (c : Component) → s ≡ flat c → k ≡ length c) (q : front ≡ length (writeNumber k)) (r : rest ≡ length (bytes s)) where
+    pub component-long : (c : Component) → s ≡ flat c → front + rest ≡ length (bytes (componentNumbers c))
+    component-long c e =
+        let a : front ≡ length (writeNumber (length c)) = q ∙ ap (λ x. length (writeNumber x)) (p c e) in
+        let b : rest ≡ length (bytes (flat c)) = r ∙ ap (λ x. length (bytes x)) e in
+        omega (arith, length-append (writeNumber (length c)) (bytes (flat c)))
+
+    pub component-bound : front + rest ≤ 402
+    component-bound = omega (arith, write-length k .1, bytes-length s, w .small)
+
+-- The first i components of S are passed: the next begins at `start` in the code, and at `from` in the trees.
+pub record Passed (S : System) (i from start : ℕ) : Type 0 where
+  pub place : from ≡ weight (take i S)
+  pub begins : start ≡ startOf S i
+
+module _ {sizes trees : List ℕ} (w : HeldSystem sizes trees) where
+  pub passed-none : (n m : ℕ) → n ≡ length (writeNumber (length trees)) → m ≡ length (writeNumber (length sizes))
+      → (S : System) → Holds S sizes trees → Passed S 0 0 (n + m)
+  passed-none n m p q S h =
+      record { place = refl; begins = rw (p, q, held-points h, held-count h) (sym (start-first S)) }
+
+  module _ {i from start : ℕ} (f : (S : System) → Holds S sizes trees → Passed S i from start) (k : i < length sizes) where
+    -- the trees of the next component
+    abbrev part : List ℕ
+    part = take (from + getD sizes i 0 - from) (drop from trees)
+
+    part-is-flat : (S : System) → Holds S sizes trees → part ≡ flat (getD S i [])
+    part-is-flat S h = held-part h i from (from + getD sizes i 0) k (f S h .place) refl
+
+    pub next-fits : from + getD sizes i 0 ≤ length trees
+    next-fits = held-fits (w .holds) i from k (f (w .system) (w .holds) .place)
+
+    pub next-held : HeldComponent part
+    next-held =
+        let S = w .system in
+        let here : i < length S = omega (arith, held-count (w .holds)) in
+        let flat-is = part-is-flat S (w .holds) in
+        record {
+          trees = getD S i [];
+          is = flat-is;
+          small = omega (arith, ap length flat-is, length-flat (getD S i []), part-fits S i here, w .small);
+        }
+
+    module _ (long : ℕ) (p : (c : Component) → part ≡ flat c → long ≡ length (bytes (componentNumbers c))) where
+      pub passed-next : (S : System) → Holds S sizes trees → Passed S (i + 1) (from + getD sizes i 0) (start + long)
+      passed-next S h =
+          record {
+            place = held-next h i from (from + getD sizes i 0) k (f S h .place) refl;
+            begins = omega (arith, f S h .begins, start-after S i (omega (arith, held-count h)), p (getD S i []) (part-is-flat S h));
+          }
+
+      -- no component ends past 804 bytes
+      pub next-bound : start + long ≤ 804
+      next-bound =
+          let S = w .system in
+          omega (arith, passed-next S (w .holds) .begins, start-within S (i + 1), written-short S (w .each-nonempty) (w .small))
+
+-- behind the last component the code ends
+pub length-found : {sizes trees : List ℕ} (r : ℕ) → ((S : System) → Holds S sizes trees → r ≡ startOf S (length sizes))
+    → (S : System) → Holds S sizes trees → r ≡ length (written S)
+length-found {sizes} r f S h = f S h ∙ start-last S (length sizes) (omega (arith, held-count h))
+
+module _ {sizes trees : List ℕ} (position : ℕ) where
+  -- the component asked for
+  pub located : position < length sizes → (start end : ℕ) → ((S : System) → Holds S sizes trees → start ≡ startOf S position)
+      → ((S : System) → Holds S sizes trees → end ≡ startOf S (position + 1))
+      → (S : System) → Holds S sizes trees → part-is start end ≡ partAnswered (componentIn S position)
+  located k start end p q S h =
+      let found : componentIn S position ≡ done (startOf S position, startOf S (position + 1)) =
+      cond-true _ _ (lt-ltb position (length S) (omega (arith, held-count h))) in
+      rw (found, p S h, q S h)
+
+  -- there is no component of that position
+  pub not-located : length sizes ≤ position → (S : System) → Holds S sizes trees → part-refused 9 ≡ partAnswered (componentIn S position)
+  not-located k S h = sym (ap partAnswered (cond-false _ _ (le-ltb position (length S) (omega (arith, held-count h)))))
