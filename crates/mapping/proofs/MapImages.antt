@@ -14,7 +14,8 @@ use Rattle.memory.specs.Memory.{Stands}
 use Rattle.mapping.specs.Images.{ComponentStands, HeldMap}
 use Rattle.map_theory.proofs.MapOf.{length-cycleImages, length-imagesFrom}
 use Rattle.mapping.proofs.Imaging.{placed-join}
-use Rattle.memory.proofs.SystemWalks.{length-gather-flat, AlongSystem, NextComponent, system-start, system-next, system-end, system-step, component-stands, component-size, component-ends}
+use Rattle.memory.proofs.Parts.{length-trees}
+use Rattle.memory.proofs.SystemWalks.{AlongSystem, NextComponent, system-start, system-next, system-end, system-step, component-stands, component-size, component-ends}
 
 -- the components before the place start have their images
 pub record Mapping (S : System) (i start : ℕ) (out₀ out : List ℕ) : Type 0 where
@@ -57,42 +58,42 @@ mapping-end {S} {i} {start} {out₀} {out} m h e =
     ∙ ap (λ r. mapOf S ++ r) (drop-of-length-le out₀ {i = 0 + length (imagesFrom 0 S)} (omega (arith, length-imagesFrom 0 S)))
     ∙ append-nil (mapOf S)
 
-module _ {sizes numbers out₀ out : List ℕ} {i start : ℕ} (a : HeldMap sizes numbers out₀) (same : length out ≡ length out₀)
-    (inv : (S : System) → sizes ≡ map points S → numbers ≡ gather flat S → Mapping S i start out₀ out) (h : i < length sizes) where
-  next : (S : System) (e : sizes ≡ map points S) (g : numbers ≡ gather flat S) → NextComponent ((inv S e g) .along)
+module _ {sizes trees out₀ out : List ℕ} {i start : ℕ} (a : HeldMap sizes trees out₀) (same : length out ≡ length out₀)
+    (inv : (S : System) → sizes ≡ map points S → trees ≡ gather flat S → Mapping S i start out₀ out) (h : i < length sizes) where
+  next : (S : System) (e : sizes ≡ map points S) (g : trees ≡ gather flat S) → NextComponent ((inv S e g) .along)
   next S e g = system-next ((inv S e g) .along) (omega (arith, ap length e, length-map S points))
 
   -- the component at start may be asked for
-  pub asked-component : ComponentStands numbers start (start + getD sizes i 0) out
+  pub asked-component : ComponentStands trees start (start + getD sizes i 0) out
   asked-component =
-      let w = (inv (a .system) (a .sizes-are) (a .numbers-are)) .along in
-      let n = next (a .system) (a .sizes-are) (a .numbers-are) in
+      let w = (inv (a .system) (a .sizes-are) (a .trees-are)) .along in
+      let n = next (a .system) (a .sizes-are) (a .trees-are) in
       record {
         trees = n .component;
-        stands = component-stands w n (a .numbers-are);
+        stands = component-stands w n (a .trees-are);
         ends = ap (λ k. start + k) (component-size w n (a .sizes-are));
         room = record { same = same ∙ a .room .same; small = a .room .small };
       }
 
-  pub asked-end : start + getD sizes i 0 ≤ length numbers
+  pub asked-end : start + getD sizes i 0 ≤ length trees
   asked-end =
-      let w = (inv (a .system) (a .sizes-are) (a .numbers-are)) .along in
-      let n = next (a .system) (a .sizes-are) (a .numbers-are) in
-      omega (arith, component-size w n (a .sizes-are), component-ends w n, ap length (a .numbers-are), length-gather-flat (a .system))
+      let w = (inv (a .system) (a .sizes-are) (a .trees-are)) .along in
+      let n = next (a .system) (a .sizes-are) (a .trees-are) in
+      omega (arith, component-size w n (a .sizes-are), component-ends w n, ap length (a .trees-are), length-trees (a .system))
 
   -- after the component at start the next one follows
   pub components-next : (out′ : List ℕ)
-      → ((c : Component) → Stands (flat c) start numbers → start + getD sizes i 0 ≡ start + points c → out′ ≡ placed start (cycleImages start start c) out)
-      → (S : System) → sizes ≡ map points S → numbers ≡ gather flat S → Mapping S (i + 1) (start + getD sizes i 0) out₀ out′
+      → ((c : Component) → Stands (flat c) start trees → start + getD sizes i 0 ≡ start + points c → out′ ≡ placed start (cycleImages start start c) out)
+      → (S : System) → sizes ≡ map points S → trees ≡ gather flat S → Mapping S (i + 1) (start + getD sizes i 0) out₀ out′
   components-next out′ wrote S e g =
       let m = inv S e g in
       let n = next S e g in
       let q : start + getD sizes i 0 ≡ start + points (n .component) = ap (λ k. start + k) (component-size (m .along) n e) in
-      mapping-next m n (start + getD sizes i 0) out′ (omega (arith, ap length g, length-gather-flat S, a .room .same)) q
+      mapping-next m n (start + getD sizes i 0) out′ (omega (arith, ap length g, length-trees S, a .room .same)) q
       (wrote (n .component) (component-stands (m .along) n g) q)
 
-pub map-written : {sizes numbers out₀ out : List ℕ} {i start : ℕ} → HeldMap sizes numbers out₀
-    → ((S : System) → sizes ≡ map points S → numbers ≡ gather flat S → Mapping S i start out₀ out) → length sizes ≤ i
-    → (S : System) → sizes ≡ map points S → numbers ≡ gather flat S → out ≡ mapOf S
+pub map-written : {sizes trees out₀ out : List ℕ} {i start : ℕ} → HeldMap sizes trees out₀
+    → ((S : System) → sizes ≡ map points S → trees ≡ gather flat S → Mapping S i start out₀ out) → length sizes ≤ i
+    → (S : System) → sizes ≡ map points S → trees ≡ gather flat S → out ≡ mapOf S
 map-written a inv h S e g =
-    mapping-end (inv S e g) (omega (arith, ap length e, length-map S points)) (omega (arith, ap length g, length-gather-flat S, a .room .same))
+    mapping-end (inv S e g) (omega (arith, ap length e, length-map S points)) (omega (arith, ap length g, length-trees S, a .room .same))

@@ -10,26 +10,26 @@ use Rattle.patterns.specs.System.{System}
 use Rattle.memory.specs.Memory.{Stands}
 
 -- room for one image for each number, and places that fit a byte
-pub record Room (numbers out : List ℕ) : Type 0 where
-  pub same : length out ≡ length numbers
-  pub small : length numbers ≤ 200
+pub record Room (trees out : List ℕ) : Type 0 where
+  pub same : length out ≡ length trees
+  pub small : length trees ≤ 200
 
 -- a tree stands from p on
-pub record TreeStands (numbers : List ℕ) (p : ℕ) (out : List ℕ) : Type 0 where
+pub record TreeStands (trees : List ℕ) (p : ℕ) (out : List ℕ) : Type 0 where
   pub tree : Tree
-  pub stands : Stands (code tree) p numbers
-  pub room : Room numbers out
+  pub stands : Stands (code tree) p trees
+  pub room : Room trees out
 
 -- a component stands from start on, and ends at end
-pub record ComponentStands (numbers : List ℕ) (start end : ℕ) (out : List ℕ) : Type 0 where
+pub record ComponentStands (trees : List ℕ) (start end : ℕ) (out : List ℕ) : Type 0 where
   pub trees : Component
-  pub stands : Stands (flat trees) start numbers
+  pub stands : Stands (flat trees) start trees
   pub ends : end ≡ start + points trees
-  pub room : Room numbers out
+  pub room : Room trees out
 
 -- a system: the points of each component, and the numbers of the components one after another
-pub record HeldMap (sizes numbers out : List ℕ) : Type 0 where
+pub record HeldMap (sizes trees out : List ℕ) : Type 0 where
   pub system : System
   pub sizes-are : sizes ≡ map points system
-  pub numbers-are : numbers ≡ gather flat system
-  pub room : Room numbers out
+  pub trees-are : trees ≡ gather flat system
+  pub room : Room trees out

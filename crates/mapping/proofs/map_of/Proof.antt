@@ -13,10 +13,10 @@ use Rattle.mapping.proofs.map_of.Statement.{statement}
 use Rattle.mapping.proofs.map_of.Tie as tie
 
 abbrev Inv-loop : tie.InvT-loop
-Inv-loop sizes numbers out₀ i₀ start₀ out i start = (length out ≡ length out₀) × ((S : System) → sizes ≡ map points S → numbers ≡ gather flat S → Mapping S i start out₀ out)
+Inv-loop sizes trees out₀ i₀ start₀ out i start = (length out ≡ length out₀) × ((S : System) → sizes ≡ map points S → trees ≡ gather flat S → Mapping S i start out₀ out)
 
 abbrev μ-loop : tie.MeasureT-loop
-μ-loop sizes numbers out₀ i₀ start₀ out i start = length sizes - i
+μ-loop sizes trees out₀ i₀ start₀ out i start = length sizes - i
 
 loop-holds : tie.Need-loop-holds Inv-loop μ-loop
 loop-holds c = let a = c .before .before .before .args in (refl, λ S e g. mapping-start S (now (a .out)))
