@@ -121,7 +121,7 @@ module _ {trees out₀ out : List ℕ} {start end p : ℕ} (a : ComponentStands 
   -- the tree at p may be asked for
   pub asked-tree : (x : ℕ) → TreeStands trees p (set out p x)
   asked-tree x =
-      let r = inv (a .trees) (a .stands) (a .ends) in
+      let r = inv (a .component) (a .stands) (a .ends) in
       record {
         tree = nextTree r (a .ends) h;
         stands = tree-stands r (a .ends) h (a .stands);
@@ -132,7 +132,7 @@ module _ {trees out₀ out : List ℕ} {start end p : ℕ} (a : ComponentStands 
   component-bounds = let b = asked-tree 0 in tree-bounds (b .tree) (b .room .small) (b .stands)
 
   pub component-fits : end ≤ length out₀
-  component-fits = omega (arith, stands-fits (a .stands), length-flat (a .trees), a .ends, a .room .same)
+  component-fits = omega (arith, stands-fits (a .stands), length-flat (a .component), a .ends, a .room .same)
 
   -- after the tree at p the next one follows
   pub trees-next : (x : ℕ) (out′ : List ℕ) → x ≡ rootImage start end (p + getD trees p 0)

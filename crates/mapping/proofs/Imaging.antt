@@ -107,7 +107,7 @@ imaging-end {t} {p} {q} {out₀} {out} i h = i .output ∙ ap (λ l. placed (p +
     all [] s = sym (s ∙ append-nil (i .had))
     all (u ∷ us) s = absurd (omega (arith, i .place, size-branches t, size-positive u, ap points s, points-append (i .had) (u ∷ us)))
 
--- the tree at p has a point, and ends within the numbers
+-- the tree at p has a point, and ends within the trees
 pub record Bounds (trees : List ℕ) (p : ℕ) : Type 0 where
   pub small : length trees ≤ 200
   pub positive : 0 < getD trees p 0

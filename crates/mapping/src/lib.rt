@@ -2,18 +2,16 @@
 ghost use denote.Ref.{now};
 ghost use mathlib.Core.Path.{_≡_};
 ghost use mathlib.Core.Bool.{cond};
-ghost use mathlib.Core.List.{map};
 ghost use Prim.Native.Nat.{_+_, _<_};
 ghost use lib.Dec.{ltb};
-ghost use Rattle.lists.specs.Select.{gather};
 ghost use Rattle.patterns.specs.Tree.{Tree, code};
 ghost use Rattle.patterns.specs.Component.{Component, flat, points as pointsOf};
 ghost use Rattle.patterns.specs.System.{System};
 ghost use Rattle.patterns.specs.MapOf.{innerImages, cycleImages, mapOf};
 ghost use Rattle.patterns.specs.Table.{image};
 ghost use Rattle.written.specs.Putting.{placed};
-ghost use Rattle.memory.specs.Memory.{Stands};
-ghost use Rattle.mapping.specs.Images.{TreeStands, ComponentStands, HeldMap};
+ghost use Rattle.memory.specs.Memory.{Holds, Stands};
+ghost use Rattle.mapping.specs.Images.{TreeStands, ComponentStands, MapAsked};
 
 // Writes the images of the points of the tree at `p` but its root: a branch goes to the point that it is a branch of.
 fn tree_images(trees: &[u8], p: usize, out: &mut [u8])
@@ -54,10 +52,10 @@ fn cycle_images(trees: &[u8], start: usize, end: usize, out: &mut [u8])
     }
 }
 
-// Writes the map of the system: the numbers in written order are the points 0, 1 and on.
+// Writes the map of the system: its trees in written order are the points 0, 1 and on.
 pub fn map_of(sizes: &[u8], trees: &[u8], out: &mut [u8])
-    requires { ⌜ HeldMap (now sizes) (now trees) (now out) ⌝ }
-    ensures { λ r. ⌜ ((S : System) → now (sizes .entry) ≡ map pointsOf S → now (trees .entry) ≡ gather flat S → now (out .exit) ≡ mapOf S) ⌝ }
+    requires { ⌜ MapAsked (now sizes) (now trees) (now out) ⌝ }
+    ensures { λ r. ⌜ ((S : System) → Holds S (now (sizes .entry)) (now (trees .entry)) → now (out .exit) ≡ mapOf S) ⌝ }
 {
     let mut i = 0;
     let mut start = 0;
