@@ -1,4 +1,4 @@
--- Inserting a component of plants among sorted ones, as blocks of numbers and points, and its size among their sizes.
+-- Inserting a component of plants among sorted ones, as blocks of trees and labels, and its size among their sizes.
 use mathlib.Core.Path.{_≡_, refl, ap, sym, subst, _∙_}
 use mathlib.Core.List.{List, [], _∷_, _++_, map, map-append, append-assoc}
 use Prim.Native.Nat.{ℕ, suc, _+_, _-_, _≤_, _<_}
@@ -23,7 +23,7 @@ use Rattle.arrangement.proofs.Planting.{exchanged-parts, flat-plants, p
 use Rattle.memory.proofs.Parts.{length-trees}
 use Rattle.arrangement.proofs.ComponentPlaces.{before-stop, before-pass, before-none}
 
--- the numbers and points of components one after another
+-- the trees and labels of components one after another
 pub joined-flat : (pic : List (List Plant)) → flat (map shape (joined pic)) ≡ gather flat (shapes pic)
 joined-flat [] = refl
 joined-flat (c ∷ pic) = flat-plants c (joined pic) ∙ ap (λ l. flat (map shape c) ++ l) (joined-flat pic)

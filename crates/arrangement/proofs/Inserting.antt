@@ -1,4 +1,4 @@
--- Inserting a plant among sorted ones, as blocks of numbers and points: the walk to its place, and the exchange that brings it there.
+-- Inserting a plant among sorted ones, as blocks of trees and labels: the walk to its place, and the exchange that brings it there.
 use mathlib.Core.Path.{_≡_, refl, ap, sym, subst, _∙_}
 use mathlib.Core.Bool.{Bool, true, false}
 use mathlib.Core.List.{List, [], _∷_, _++_, map, append-assoc, append-nil}

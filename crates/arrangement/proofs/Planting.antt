@@ -1,4 +1,4 @@
--- Plants written one after another: blocks of numbers and points side by side, and the exchange of neighbouring blocks.
+-- Plants written one after another: blocks of trees and labels side by side, and the exchange of neighbouring blocks.
 use mathlib.Core.Path.{_≡_, ap, ap₂, sym, subst, _∙_}
 use mathlib.Core.List.{List, [], _++_, map, map-append, append-assoc}
 use Prim.Native.Nat.{ℕ, _+_, _-_, _≤_}
@@ -50,7 +50,7 @@ exchanged-placed {A} p x y z d a b e fits h k m =
     (omega (arith, length-append (take p d) x, length-take-le p d (omega arith))) k m
     ∙ sym t
 
--- the numbers and the points of plants one after another
+-- the trees and the labels of plants one after another
 pub flat-plants : (us vs : List Plant) → flat (map shape (us ++ vs)) ≡ flat (map shape us) ++ flat (map shape vs)
 flat-plants us vs = ap flat (map-append shape us vs) ∙ flat-append (map shape us) (map shape vs)
 

@@ -15,7 +15,7 @@ ghost use Rattle.lists.specs.Order.{lex, atMost};
 ghost use Rattle.lists.specs.Select.{gather};
 ghost use Rattle.patterns.specs.Tree.{Tree, code};
 ghost use Rattle.patterns.specs.Component.{Component, flat, points as pointsOf};
-ghost use Rattle.patterns.specs.System.{System, compareGenerated};
+ghost use Rattle.patterns.specs.System.{System};
 ghost use Rattle.memory.specs.Memory.{Held};
 ghost use Rattle.arrangement.specs.Arrangement.{pointsBefore, SiblingsStand, Inserts, LeastStart};
 ghost use Rattle.arrangement.specs.Arrangement.{PlaceAsked, PlaceFound, InsertAsked, ComponentInserted};

@@ -266,7 +266,7 @@ set-placed at v l d h =
     ∙ set-at (take at d) y r v at (length-take-le at d (omega arith))
     ∙ ap (λ k. take at d ++ (v ∷ (l ++ drop k d))) q
 
--- the numbers and the points of a plant, by its branches
+-- the trees and the labels of a plant, by its branches
 code-plant : (x : ℕ) (us : List Plant) → code (shape (plantOn (tip x) us)) ≡ suc (points (map shape us)) ∷ flat (map shape us)
 code-plant x us =
     ap code (plantOn-shape (tip x) us)
