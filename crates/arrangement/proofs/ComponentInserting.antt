@@ -1,4 +1,4 @@
--- Inserting a component of plants among sorted ones, as blocks of numbers and points, and its size among their sizes.
+-- Inserting a component of plants among sorted ones, as blocks of trees and labels, and its size among their sizes.
 use mathlib.Core.Path.{_≡_, refl, ap, sym, subst, _∙_}
 use mathlib.Core.List.{List, [], _∷_, _++_, map, map-append, append-assoc}
 use Prim.Native.Nat.{ℕ, suc, _+_, _-_, _≤_, _<_}
@@ -20,10 +20,10 @@ use Rattle.arrangement.specs.Arrangement.{Planted}
 use Rattle.arrangement.specs.Arrangement.{componentsBefore, PlaceFound, PlaceAsked, InsertAsked}
 use Rattle.memory.proofs.Standing.{stands-left, stands-right, stands-path, stands-at, stands-part, part-length}
 use Rattle.arrangement.proofs.Planting.{exchanged-parts, flat-plants, points-plants, planted-stands, planted-exchanged}
-use Rattle.memory.proofs.SystemWalks.{length-gather-flat}
+use Rattle.memory.proofs.Parts.{length-trees}
 use Rattle.arrangement.proofs.ComponentPlaces.{before-stop, before-pass, before-none}
 
--- the numbers and points of components one after another
+-- the trees and labels of components one after another
 pub joined-flat : (pic : List (List Plant)) → flat (map shape (joined pic)) ≡ gather flat (shapes pic)
 joined-flat [] = refl
 joined-flat (c ∷ pic) = flat-plants c (joined pic) ∙ ap (λ l. flat (map shape c) ++ l) (joined-flat pic)
@@ -75,19 +75,19 @@ number-inserted a b x s i m h e k =
     ∙ sym (append-assoc a (x ∷ b) z) in
     ap (take (m + 1)) r ∙ take-at (a ++ (x ∷ b)) z (m + 1) (omega (arith, length-append a (x ∷ b), length-append a b))
 
-module _ (pic : List (List Plant)) (c : List Plant) {end next : ℕ} {d e numbers labelled : List ℕ} (ends : end ≡ points (map shape (joined pic)))
-    (p : Planted (joined pic ++ c) 0 d e next numbers labelled) where
+module _ (pic : List (List Plant)) (c : List Plant) {end next : ℕ} {d e trees labelled : List ℕ} (ends : end ≡ points (map shape (joined pic)))
+    (p : Planted (joined pic ++ c) 0 d e next trees labelled) where
   next-is : next ≡ end + points (map shape c)
   next-is = omega (arith, p .ends, points-plants (joined pic) c)
 
   -- where the components and the last one stand
-  pub inserting-row : take end numbers ≡ gather flat (shapes pic)
-  inserting-row =
+  pub inserting-trees : take end trees ≡ gather flat (shapes pic)
+  inserting-trees =
       let s = stands-left (flat (map shape c)) (stands-path (flat-plants (joined pic) c) (planted-stands (omega arith) p)) in
       let k : end - 0 ≡ end = omega arith in
-      ap (λ n. take n numbers) (sym k) ∙ stands-part end (omega (arith, length-flat (map shape (joined pic)))) s ∙ joined-flat pic
+      ap (λ n. take n trees) (sym k) ∙ stands-part end (omega (arith, length-flat (map shape (joined pic)))) s ∙ joined-flat pic
 
-  pub inserting-last : take (next - end) (drop end numbers) ≡ flat (map shape c)
+  pub inserting-last : take (next - end) (drop end trees) ≡ flat (map shape c)
   inserting-last =
       stands-part next (omega (arith, next-is, length-flat (map shape c)))
       (stands-at (omega (arith, length-flat (map shape (joined pic))))
@@ -97,7 +97,7 @@ module _ (pic : List (List Plant)) (c : List Plant) {end next : ℕ} {d e number
   pub component-inserted : (m : ℕ) (sizes : List ℕ) (r : Place) → next ≤ length d → next ≤ length e → m < length sizes
       → take m sizes ≡ map points (shapes pic) → PlaceFound (map shape c) (shapes pic) r
       → (take (m + 1) (exchanged (r .index) m (m + 1) (set sizes m (next - end))) ≡ map points (shapes (insert compareShapes c pic)))
-      × Planted (joined (insert compareShapes c pic)) 0 d e next (exchanged (r .at) end next numbers) (exchanged (r .at) end next labelled)
+      × Planted (joined (insert compareShapes c pic)) 0 d e next (exchanged (r .at) end next trees) (exchanged (r .at) end next labelled)
   component-inserted m sizes r h k b s f =
       let w = insert-among c pic in
       let front = w .front in
@@ -112,11 +112,11 @@ module _ (pic : List (List Plant)) (c : List Plant) {end next : ℕ} {d e number
             (length-map (shapes front) points ∙ sym (f .index-is ∙ ap length (w .place)))
             ∙ ap (λ x. map points (shapes front) ++ (x ∷ map points (shapes back))) size
             ∙ sym (ap (λ l. map points (shapes l)) (w .together) ∙ ap (map points) (map-append (map shape) front (c ∷ back)) ∙ map-append points (shapes front) (shapes (c ∷ back))),
-        subst (λ us. Planted us 0 d e next (exchanged (r .at) end next numbers) (exchanged (r .at) end next labelled)) (sym out)
+        subst (λ us. Planted us 0 d e next (exchanged (r .at) end next trees) (exchanged (r .at) end next labelled)) (sym out)
             (planted-exchanged (joined front) (joined back) c {mid = r .at} {end = end} h k
             (omega arith)
             (omega (arith, ap (λ l. points (map shape (joined l))) (w .cut), ap (λ l. points (map shape l)) (joined-append front back), points-plants (joined front) (joined back)))
-            (subst (λ us. Planted us 0 d e next numbers labelled) cut p)),
+            (subst (λ us. Planted us 0 d e next trees labelled) cut p)),
       )
 
 -- the components before the place of c are among the others
@@ -129,12 +129,12 @@ before-within c (d ∷ S) =
     let r = before-within c S in
     (omega (arith, ap length (before-pass c d S t)), omega (arith, ap weight (before-pass c d S t))))
 
-module _ {sizes : List ℕ} {m : ℕ} {numbers labelled : List ℕ} {end next : ℕ} (a : InsertAsked sizes m numbers labelled end next) where
-  whole-row : take (end - 0) numbers ≡ take end numbers
-  whole-row = let k : end - 0 ≡ end = omega arith in ap (λ n. take n numbers) k
+module _ {sizes : List ℕ} {m : ℕ} {trees labelled : List ℕ} {end next : ℕ} (a : InsertAsked sizes m trees labelled end next) where
+  whole-trees : take (end - 0) trees ≡ take end trees
+  whole-trees = let k : end - 0 ≡ end = omega arith in ap (λ n. take n trees) k
 
   -- its place may be asked for
-  pub asked-place : PlaceAsked (take (next - end) (drop end numbers)) (take m sizes) (take (end - 0) numbers)
+  pub asked-place : PlaceAsked (take (next - end) (drop end trees)) (take m sizes) (take (end - 0) trees)
   asked-place =
       record {
         component = a .component;
@@ -142,26 +142,26 @@ module _ {sizes : List ℕ} {m : ℕ} {numbers labelled : List ℕ} {end next : 
         component-is = a .component-is;
         component-valid = a .component-valid;
         sizes-are = a .sizes-are;
-        row-is = whole-row ∙ a .row-is;
+        trees-are = whole-trees ∙ a .trees-are;
         system-valid = a .system-valid;
         small = (
-          omega (arith, part-length numbers end next (a .fits), a .fits, a .small),
-          omega (arith, ap length whole-row, length-take-le end numbers (omega (arith, a .after, a .fits)), a .after, a .fits, a .small),
+          omega (arith, part-length trees end next (a .fits), a .fits, a .small),
+          omega (arith, ap length whole-trees, length-take-le end trees (omega (arith, a .after, a .fits)), a .after, a .fits, a .small),
         );
       }
 
   module _ {r : Place}
-      (f : (x : Component) (S : System) → take (next - end) (drop end numbers) ≡ flat x → take m sizes ≡ map points S → take (end - 0) numbers ≡ gather flat S
+      (f : (x : Component) (S : System) → take (next - end) (drop end trees) ≡ flat x → take m sizes ≡ map points S → take (end - 0) trees ≡ gather flat S
       → PlaceFound x S r) where
     -- and lies within
     pub place-within : (r .index ≤ m) × (r .at ≤ end)
     place-within =
-        let p = f (a .component) (a .system) (a .component-is) (a .sizes-are) (whole-row ∙ a .row-is) in
+        let p = f (a .component) (a .system) (a .component-is) (a .sizes-are) (whole-trees ∙ a .trees-are) in
         let b = before-within (a .component) (a .system) in (
           omega (arith, p .index-is, ap length (a .sizes-are), length-map (a .system) points, length-take-le m sizes (omega (arith, a .count))),
-          omega (arith, p .at-is, ap length (a .row-is), length-gather-flat (a .system), length-take-le end numbers (omega (arith, a .after, a .fits))),
+          omega (arith, p .at-is, ap length (a .trees-are), length-trees (a .system), length-take-le end trees (omega (arith, a .after, a .fits))),
         )
 
     pub place-of : (pic : List (List Plant)) (c : List Plant) {d e : List ℕ} → take m sizes ≡ map points (shapes pic)
-        → end ≡ points (map shape (joined pic)) → Planted (joined pic ++ c) 0 d e next numbers labelled → PlaceFound (map shape c) (shapes pic) r
-    place-of pic c s ends p = f (map shape c) (shapes pic) (inserting-last pic c ends p) s (whole-row ∙ inserting-row pic c ends p)
+        → end ≡ points (map shape (joined pic)) → Planted (joined pic ++ c) 0 d e next trees labelled → PlaceFound (map shape c) (shapes pic) r
+    place-of pic c s ends p = f (map shape c) (shapes pic) (inserting-last pic c ends p) s (whole-trees ∙ inserting-trees pic c ends p)

@@ -1,4 +1,4 @@
--- Inserting a plant among sorted ones, as blocks of numbers and points: the walk to its place, and the exchange that brings it there.
+-- Inserting a plant among sorted ones, as blocks of trees and labels: the walk to its place, and the exchange that brings it there.
 use mathlib.Core.Path.{_≡_, refl, ap, sym, subst, _∙_}
 use mathlib.Core.Bool.{Bool, true, false}
 use mathlib.Core.List.{List, [], _∷_, _++_, map, append-assoc, append-nil}
@@ -48,10 +48,10 @@ code-order : (tree : List ℕ) (t u : Tree) (b : Bool) → tree ≡ code t → a
 unfolding compareTree
 code-order tree t u b e h = ap (λ l. atMost (lex compare) l (code u)) (sym e) ∙ h
 
-module _ {row : List ℕ} {at : ℕ} {tree : List ℕ} (w : Along row at (Exceeds tree)) where
+module _ {siblings : List ℕ} {at : ℕ} {tree : List ℕ} (w : Along siblings at (Exceeds tree)) where
   -- it does not exceed the tree at the place
-  pub exceeds-stop : (n : Next row at (w .rest)) → atMost (lex compare) tree (code (n .tree)) ≡ true
-      → (t : Tree) (c : Component) → tree ≡ code t → row ≡ flat c → at ≡ pointsBefore t c
+  pub exceeds-stop : (n : Next siblings at (w .rest)) → atMost (lex compare) tree (code (n .tree)) ≡ true
+      → (t : Tree) (c : Component) → tree ≡ code t → siblings ≡ flat c → at ≡ pointsBefore t c
   exceeds-stop n h t c e g =
       omega (
         arith,
@@ -63,7 +63,7 @@ module _ {row : List ℕ} {at : ℕ} {tree : List ℕ} (w : Along row at (Exceed
       )
 
   -- it exceeds that tree too
-  pub exceeds-step : (n : Next row at (w .rest)) → atMost (lex compare) tree (code (n .tree)) ≡ false → Along row (at + getD row at 0) (Exceeds tree)
+  pub exceeds-step : (n : Next siblings at (w .rest)) → atMost (lex compare) tree (code (n .tree)) ≡ false → Along siblings (at + getD siblings at 0) (Exceeds tree)
   exceeds-step n h =
       along-step w n (Exceeds tree)
       (λ t e.
@@ -79,7 +79,7 @@ module _ {row : List ℕ} {at : ℕ} {tree : List ℕ} (w : Along row at (Exceed
       ))
 
   -- it exceeds them all
-  pub exceeds-end : length row ≤ at → (t : Tree) (c : Component) → tree ≡ code t → row ≡ flat c → at ≡ pointsBefore t c
+  pub exceeds-end : length siblings ≤ at → (t : Tree) (c : Component) → tree ≡ code t → siblings ≡ flat c → at ≡ pointsBefore t c
   exceeds-end h t c e g =
       omega (
         arith,
@@ -115,26 +115,26 @@ insert-at v (u ∷ us) =
     })
 
 -- the exchange brings v to its place
-pub planted-inserted : (us : List Plant) (v : Plant) {start p end next : ℕ} {d e numbers labelled : List ℕ} → next ≤ length d → next ≤ length e
+pub planted-inserted : (us : List Plant) (v : Plant) {start p end next : ℕ} {d e trees labels : List ℕ} → next ≤ length d → next ≤ length e
     → p ≡ start + pointsBefore (shape v) (map shape us) → end ≡ start + points (map shape us)
-    → Planted (us ++ (v ∷ [])) start d e next numbers labelled
-    → Planted (insert comparePlant v us) start d e next (exchanged p end next numbers) (exchanged p end next labelled)
-planted-inserted us v {start} {p} {end} {next} {d} {e} {numbers} {labelled} h k q m pl =
+    → Planted (us ++ (v ∷ [])) start d e next trees labels
+    → Planted (insert comparePlant v us) start d e next (exchanged p end next trees) (exchanged p end next labels)
+planted-inserted us v {start} {p} {end} {next} {d} {e} {trees} {labels} h k q m pl =
     let r = insert-at v us in
     let a = r .front in
     let b = r .back in
     let s : us ++ (v ∷ []) ≡ a ++ (b ++ (v ∷ [])) = ap (λ l. l ++ (v ∷ [])) (r .cut) ∙ append-assoc a b (v ∷ []) in
     let w = planted-exchanged a b (v ∷ []) {mid = p} {end = end} h k (omega (arith, r .place)) (omega (arith, r .place, ap (λ l. points (map shape l)) (r .cut), points-plants a b))
-    (subst (λ l. Planted l start d e next numbers labelled) s pl) in
-    subst (λ l. Planted l start d e next (exchanged p end next numbers) (exchanged p end next labelled)) (sym (r .joined)) w
+    (subst (λ l. Planted l start d e next trees labels) s pl) in
+    subst (λ l. Planted l start d e next (exchanged p end next trees) (exchanged p end next labels)) (sym (r .joined)) w
 
 -- where the plants stand: those before the last one, and the last one
-pub planted-row : (us : List Plant) (v : Plant) {start end next : ℕ} {d e numbers labelled : List ℕ} → next ≤ length d → end ≡ start + points (map shape us)
-    → Planted (us ++ (v ∷ [])) start d e next numbers labelled
-    → (take (end - start) (drop start numbers) ≡ flat (map shape us)) × (take (next - end) (drop end numbers) ≡ code (shape v))
-planted-row us v {start} {end} {next} {d} {e} {numbers} h m p =
+pub planted-siblings : (us : List Plant) (v : Plant) {start end next : ℕ} {d e trees labels : List ℕ} → next ≤ length d → end ≡ start + points (map shape us)
+    → Planted (us ++ (v ∷ [])) start d e next trees labels
+    → (take (end - start) (drop start trees) ≡ flat (map shape us)) × (take (next - end) (drop end trees) ≡ code (shape v))
+planted-siblings us v {start} {end} {next} {d} {e} {trees} h m p =
     let n : next ≡ start + (points (map shape us) + points (map shape (v ∷ []))) = omega (arith, p .ends, points-plants us (v ∷ [])) in
-    let s : Stands (flat (map shape us) ++ (code (shape v) ++ [])) start numbers =
+    let s : Stands (flat (map shape us) ++ (code (shape v) ++ [])) start trees =
     stands-path (flat-plants us (v ∷ [])) (planted-stands (omega arith) p) in (
       stands-part end (omega (arith, length-flat (map shape us))) (stands-left (code (shape v) ++ []) s),
       stands-part next (omega (arith, length-code (shape v)))

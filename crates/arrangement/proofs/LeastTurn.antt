@@ -94,7 +94,7 @@ module _ (s : List ℕ) (a b : ℕ) (h : a ≤ b) (k : b ≤ length s) where
         → atMost (lex compare) (take a s) (take (b - d) (drop d s)) ≡ whole
     between-last p = sym (ap isLe pieces ∙ rw (q, p))
 
--- the numbers turned to begin at a place where a tree begins are those of the trees turned
+-- the bytes turned to begin at a place where a tree begins are those of the trees turned
 turned-flat : (s : List ℕ) (p : ℕ) (x y : Component) → s ≡ flat (x ++ y) → p ≡ points x → drop p s ++ take p s ≡ flat (y ++ x)
 turned-flat s p x y q h =
     let w : s ≡ flat x ++ flat y = q ∙ flat-append x y in
@@ -145,7 +145,7 @@ module _ {s : List ℕ} {at best : ℕ} (w : Along s at (Best best)) where
   pub best-within : best ≤ at
   best-within = omega (arith, w .kept .within, w .place)
 
-  -- comparing the numbers is comparing the trees
+  -- comparing the bytes is comparing the trees
   compared : atMost (lex compare) (drop best s ++ take best s) (drop at s ++ take at s)
       ≡ atMost compareComponent (w .kept .back ++ w .kept .front) (w .rest ++ w .ahead)
   compared =

@@ -1,4 +1,4 @@
--- Plants written one after another: blocks of numbers and points side by side, and the exchange of neighbouring blocks.
+-- Plants written one after another: blocks of trees and labels side by side, and the exchange of neighbouring blocks.
 use mathlib.Core.Path.{_≡_, ap, ap₂, sym, subst, _∙_}
 use mathlib.Core.List.{List, [], _++_, map, map-append, append-assoc}
 use Prim.Native.Nat.{ℕ, _+_, _-_, _≤_}
@@ -50,7 +50,7 @@ exchanged-placed {A} p x y z d a b e fits h k m =
     (omega (arith, length-append (take p d) x, length-take-le p d (omega arith))) k m
     ∙ sym t
 
--- the numbers and the points of plants one after another
+-- the trees and the labels of plants one after another
 pub flat-plants : (us vs : List Plant) → flat (map shape (us ++ vs)) ≡ flat (map shape us) ++ flat (map shape vs)
 flat-plants us vs = ap flat (map-append shape us vs) ∙ flat-append (map shape us) (map shape vs)
 
@@ -60,20 +60,20 @@ points-plants us vs = ap points (map-append shape us vs) ∙ points-append (map 
 -- nothing was planted so far
 pub planted-none : (at : ℕ) (d e : List ℕ) → Planted [] at d e at d e
 planted-none at d e =
-    record { ends = omega arith; numbers-are = sym (placed-none at d); labels-are = sym (placed-none at e) }
+    record { ends = omega arith; trees-are = sym (placed-none at d); labels-are = sym (placed-none at e) }
 
-module _ {us vs : List Plant} {at mid end : ℕ} {d e d′ e′ numbers labelled : List ℕ} where
+module _ {us vs : List Plant} {at mid end : ℕ} {d e d′ e′ trees labelled : List ℕ} where
   -- what was planted next stands after what was planted before
   pub planted-then : at + points (map shape us) ≤ length d → at + points (map shape us) ≤ length e
-      → Planted us at d e mid d′ e′ → Planted vs mid d′ e′ end numbers labelled → Planted (us ++ vs) at d e end numbers labelled
+      → Planted us at d e mid d′ e′ → Planted vs mid d′ e′ end trees labelled → Planted (us ++ vs) at d e end trees labelled
   planted-then h k p q =
       let n : mid ≡ at + length (flat (map shape us)) = omega (arith, p .ends, length-flat (map shape us)) in
       let m : mid ≡ at + length (gather labels us) = omega (arith, p .ends, length-labels us) in
       record {
         ends = omega (arith, p .ends, q .ends, points-plants us vs);
-        numbers-are =
-            q .numbers-are
-            ∙ ap₂ (λ i l. placed i (flat (map shape vs)) l) n (p .numbers-are)
+        trees-are =
+            q .trees-are
+            ∙ ap₂ (λ i l. placed i (flat (map shape vs)) l) n (p .trees-are)
             ∙ placed-more at (flat (map shape us)) (flat (map shape vs)) d (omega arith)
             ∙ ap (λ l. placed at l d) (sym (flat-plants us vs));
         labels-are =
@@ -84,25 +84,25 @@ module _ {us vs : List Plant} {at mid end : ℕ} {d e d′ e′ numbers labelled
       }
 
 -- where they stand
-pub planted-stands : {us : List Plant} {at end : ℕ} {d e numbers labelled : List ℕ} → at ≤ length d → Planted us at d e end numbers labelled
-    → Stands (flat (map shape us)) at numbers
-planted-stands {us} {at} {d = d} h p = subst (Stands (flat (map shape us)) at) (sym (p .numbers-are)) (stands-placed (flat (map shape us)) at d h)
+pub planted-stands : {us : List Plant} {at end : ℕ} {d e trees labelled : List ℕ} → at ≤ length d → Planted us at d e end trees labelled
+    → Stands (flat (map shape us)) at trees
+planted-stands {us} {at} {d = d} h p = subst (Stands (flat (map shape us)) at) (sym (p .trees-are)) (stands-placed (flat (map shape us)) at d h)
 
 -- the lengths stay
-pub planted-numbers : {us : List Plant} {at end : ℕ} {d e numbers labelled : List ℕ} → Planted us at d e end numbers labelled → end ≤ length d
-    → length numbers ≡ length d
-planted-numbers {us} {at} {d = d} p h =
-    ap length (p .numbers-are) ∙ placed-length at (flat (map shape us)) d (omega (arith, p .ends, length-flat (map shape us)))
+pub planted-trees : {us : List Plant} {at end : ℕ} {d e trees labelled : List ℕ} → Planted us at d e end trees labelled → end ≤ length d
+    → length trees ≡ length d
+planted-trees {us} {at} {d = d} p h =
+    ap length (p .trees-are) ∙ placed-length at (flat (map shape us)) d (omega (arith, p .ends, length-flat (map shape us)))
 
-pub planted-labels : {us : List Plant} {at end : ℕ} {d e numbers labelled : List ℕ} → Planted us at d e end numbers labelled → end ≤ length e
+pub planted-labels : {us : List Plant} {at end : ℕ} {d e trees labelled : List ℕ} → Planted us at d e end trees labelled → end ≤ length e
     → length labelled ≡ length e
 planted-labels {us} {at} {e = e} p h =
     ap length (p .labels-are) ∙ placed-length at (gather labels us) e (omega (arith, p .ends, length-labels us))
 
 -- the last plants go before some of the others
-pub planted-exchanged : (a b v : List Plant) {at mid end next : ℕ} {d e numbers labelled : List ℕ} → next ≤ length d → next ≤ length e
-    → at + points (map shape a) ≡ mid → mid + points (map shape b) ≡ end → Planted (a ++ (b ++ v)) at d e next numbers labelled
-    → Planted (a ++ (v ++ b)) at d e next (exchanged mid end next numbers) (exchanged mid end next labelled)
+pub planted-exchanged : (a b v : List Plant) {at mid end next : ℕ} {d e trees labelled : List ℕ} → next ≤ length d → next ≤ length e
+    → at + points (map shape a) ≡ mid → mid + points (map shape b) ≡ end → Planted (a ++ (b ++ v)) at d e next trees labelled
+    → Planted (a ++ (v ++ b)) at d e next (exchanged mid end next trees) (exchanged mid end next labelled)
 planted-exchanged a b v {at} {mid} {end} {next} {d} {e} h k i j p =
     let n : next ≡ at + (points (map shape a) + (points (map shape b) + points (map shape v))) =
     omega (arith, p .ends, points-plants a (b ++ v), points-plants b v) in
@@ -114,8 +114,8 @@ planted-exchanged a b v {at} {mid} {end} {next} {d} {e} h k i j p =
     let lv = gather labels v in
     record {
       ends = omega (arith, points-plants a (v ++ b), points-plants v b);
-      numbers-are =
-          ap (exchanged mid end next) (p .numbers-are ∙ ap (λ l. placed at l d) (flat-plants a (b ++ v) ∙ ap (λ l. fa ++ l) (flat-plants b v)))
+      trees-are =
+          ap (exchanged mid end next) (p .trees-are ∙ ap (λ l. placed at l d) (flat-plants a (b ++ v) ∙ ap (λ l. fa ++ l) (flat-plants b v)))
           ∙ exchanged-placed at fa fb fv d mid end next
           (omega (arith, length-append fa (fb ++ fv), length-append fb fv, length-flat (map shape a), length-flat (map shape b), length-flat (map shape v)))
           (omega (arith, length-flat (map shape a))) (omega (arith, length-flat (map shape b))) (omega (arith, length-flat (map shape v)))

@@ -15,10 +15,10 @@ use mathlib.Core.Bool.{true, cond}
 use mathlib.Core.List.{List, [], _∷_, _++_, map}
 use mathlib.Core.Path.{_≡_}
 
--- the plants us stand from `start` to `end`, their numbers in d and their points in e, and all else is as it was
-pub record Planted (us : List Plant) (start : ℕ) (d e : List ℕ) (end : ℕ) (numbers labelled : List ℕ) : Type 0 where
+-- the plants us stand from `start` to `end`, their trees in d and their labels in e, and all else is as it was
+pub record Planted (us : List Plant) (start : ℕ) (d e : List ℕ) (end : ℕ) (trees labelled : List ℕ) : Type 0 where
   pub ends : end ≡ start + points (map shape us)
-  pub numbers-are : numbers ≡ placed start (flat (map shape us)) d
+  pub trees-are : trees ≡ placed start (flat (map shape us)) d
   pub labels-are : labelled ≡ placed start (gather labels us) e
 
 -- how many points the trees have that stand before the first one that t does not exceed
@@ -30,18 +30,18 @@ pointsBefore t (u ∷ us) =
     cond (atMost compareTree t u) 0 later
 
 -- trees stand from start to end, and something from there to next
-pub record RowStands (numbers labelled : List ℕ) (start end next : ℕ) : Type 0 where
-  pub trees : Component
-  pub stands : Stands (flat trees) start numbers
-  pub ends : end ≡ start + points trees
+pub record SiblingsStand (trees labelled : List ℕ) (start end next : ℕ) : Type 0 where
+  pub siblings : Component
+  pub stands : Stands (flat siblings) start trees
+  pub ends : end ≡ start + points siblings
   pub after : end ≤ next
-  pub fits : next ≤ length numbers
-  pub same : length labelled ≡ length numbers
+  pub fits : next ≤ length trees
+  pub same : length labelled ≡ length trees
 
 -- whatever plants us stood from start to end, and v behind them, v is inserted among us
-pub record Inserts (start end next : ℕ) (numbers₀ labelled₀ numbers labelled : List ℕ) : Type 0 where
+pub record Inserts (start end next : ℕ) (trees₀ labelled₀ trees labelled : List ℕ) : Type 0 where
   pub inserts : (us : List Plant) (v : Plant) (d e : List ℕ) → next ≤ length d → next ≤ length e → end ≡ start + points (map shape us)
-      → Planted (us ++ (v ∷ [])) start d e next numbers₀ labelled₀ → Planted (insert comparePlant v us) start d e next numbers labelled
+      → Planted (us ++ (v ∷ [])) start d e next trees₀ labelled₀ → Planted (insert comparePlant v us) start d e next trees labelled
 
 -- turned to begin at r, c is least
 pub record LeastStart (c : Component) (r : ℕ) : Type 0 where
@@ -50,16 +50,6 @@ pub record LeastStart (c : Component) (r : ℕ) : Type 0 where
   pub cut : c ≡ front ++ back
   pub place : r ≡ points front
   pub least : (u v : Component) → c ≡ u ++ v → atMost compareComponent (back ++ front) (v ++ u) ≡ true
-
--- two valid components of at most 200 points each
-pub record BothValid (s t : List ℕ) : Type 0 where
-  pub left : Component
-  pub right : Component
-  pub left-is : s ≡ flat left
-  pub right-is : t ≡ flat right
-  pub left-valid : validComponent left ≡ true
-  pub right-valid : validComponent right ≡ true
-  pub small : (length s ≤ 200) × (length t ≤ 200)
 
 -- the components that stand before the first one that c does not come after
 unfoldable pub componentsBefore : Component → System → System
@@ -70,15 +60,15 @@ componentsBefore c (d ∷ S) =
     cond (atMost compareGenerated c d) [] later
 
 -- a valid component, and a system of valid components with their sizes
-pub record PlaceAsked (s sizes row : List ℕ) : Type 0 where
+pub record PlaceAsked (s sizes trees : List ℕ) : Type 0 where
   pub component : Component
   pub system : System
   pub component-is : s ≡ flat component
   pub component-valid : validComponent component ≡ true
   pub sizes-are : sizes ≡ map points system
-  pub row-is : row ≡ gather flat system
+  pub trees-are : trees ≡ gather flat system
   pub system-valid : each validComponent system ≡ true
-  pub small : (length s ≤ 200) × (length row ≤ 200)
+  pub small : (length s ≤ 200) × (length trees ≤ 200)
 
 -- how many components stand before the place of c, and how many points they have
 pub record PlaceFound (c : Component) (S : System) (r : Place) : Type 0 where
@@ -86,22 +76,22 @@ pub record PlaceFound (c : Component) (S : System) (r : Place) : Type 0 where
   pub at-is : r .at ≡ weight (componentsBefore c S)
 
 -- a system of valid components up to end, its sizes in the first m places, and a valid component from there to next; room for one size more
-pub record InsertAsked (sizes : List ℕ) (m : ℕ) (numbers labelled : List ℕ) (end next : ℕ) : Type 0 where
+pub record InsertAsked (sizes : List ℕ) (m : ℕ) (trees labelled : List ℕ) (end next : ℕ) : Type 0 where
   pub system : System
   pub component : Component
   pub sizes-are : take m sizes ≡ map points system
-  pub row-is : take end numbers ≡ gather flat system
-  pub component-is : take (next - end) (drop end numbers) ≡ flat component
+  pub trees-are : take end trees ≡ gather flat system
+  pub component-is : take (next - end) (drop end trees) ≡ flat component
   pub system-valid : each validComponent system ≡ true
   pub component-valid : validComponent component ≡ true
   pub count : m < length sizes
   pub after : end ≤ next
-  pub fits : next ≤ length numbers
-  pub same : length labelled ≡ length numbers
-  pub small : length numbers ≤ 200
+  pub fits : next ≤ length trees
+  pub same : length labelled ≡ length trees
+  pub small : length trees ≤ 200
 
 -- whatever components pic stood up to end, and c behind them, c is inserted among pic
-pub record ComponentInserted (m end next : ℕ) (sizes₀ numbers₀ labelled₀ sizes numbers labelled : List ℕ) : Type 0 where
+pub record ComponentInserted (m end next : ℕ) (sizes₀ trees₀ labelled₀ sizes trees labelled : List ℕ) : Type 0 where
   pub inserts : (pic : List (List Plant)) (c : List Plant) (d e : List ℕ) → next ≤ length d → next ≤ length e → m < length sizes₀
-      → take m sizes₀ ≡ map points (shapes pic) → end ≡ points (map shape (joined pic)) → Planted (joined pic ++ c) 0 d e next numbers₀ labelled₀
-      → (take (m + 1) sizes ≡ map points (shapes (insert compareShapes c pic))) × Planted (joined (insert compareShapes c pic)) 0 d e next numbers labelled
+      → take m sizes₀ ≡ map points (shapes pic) → end ≡ points (map shape (joined pic)) → Planted (joined pic ++ c) 0 d e next trees₀ labelled₀
+      → (take (m + 1) sizes ≡ map points (shapes (insert compareShapes c pic))) × Planted (joined (insert compareShapes c pic)) 0 d e next trees labelled

@@ -15,21 +15,21 @@ ghost use Rattle.lists.specs.Order.{lex, atMost};
 ghost use Rattle.lists.specs.Select.{gather};
 ghost use Rattle.patterns.specs.Tree.{Tree, code};
 ghost use Rattle.patterns.specs.Component.{Component, flat, points as pointsOf};
-ghost use Rattle.patterns.specs.System.{System, compareGenerated};
+ghost use Rattle.patterns.specs.System.{System};
 ghost use Rattle.memory.specs.Memory.{Held};
-ghost use Rattle.arrangement.specs.Arrangement.{pointsBefore, RowStands, Inserts, LeastStart};
-ghost use Rattle.arrangement.specs.Arrangement.{BothValid, PlaceAsked, PlaceFound, InsertAsked, ComponentInserted};
+ghost use Rattle.arrangement.specs.Arrangement.{pointsBefore, SiblingsStand, Inserts, LeastStart};
+ghost use Rattle.arrangement.specs.Arrangement.{PlaceAsked, PlaceFound, InsertAsked, ComponentInserted};
 
-// How many points the trees of `row` have that stand before the first one that `tree` does not exceed.
-fn points_before(tree: &[u8], row: &[u8]) -> usize
-    requires { ⌜ Held (now row) ⌝ }
-    ensures { λ r. ⌜ (r ≤ length (now (row .entry)))
-        × ((t : Tree) (c : Component) → now (tree .entry) ≡ code t → now (row .entry) ≡ flat c → r ≡ pointsBefore t c) ⌝ }
+// How many points those of the trees `siblings` have that stand before the first one that `tree` does not exceed.
+fn points_before(tree: &[u8], siblings: &[u8]) -> usize
+    requires { ⌜ Held (now siblings) ⌝ }
+    ensures { λ r. ⌜ (r ≤ length (now (siblings .entry)))
+        × ((t : Tree) (c : Component) → now (tree .entry) ≡ code t → now (siblings .entry) ≡ flat c → r ≡ pointsBefore t c) ⌝ }
 {
     let mut p = 0;
-    while p < row.len() {
-        let q = p + row[p] as usize;
-        if at_most(tree, &row[p..q]) {
+    while p < siblings.len() {
+        let q = p + siblings[p] as usize;
+        if at_most(tree, &siblings[p..q]) {
             return p;
         }
         p = q;
@@ -37,14 +37,14 @@ fn points_before(tree: &[u8], row: &[u8]) -> usize
     p
 }
 
-// The tree from `end` to `next` goes to its place among the sorted trees from `start` to `end`, its points with it.
-pub fn insert_tree(numbers: &mut [u8], points: &mut [u8], start: usize, end: usize, next: usize)
-    requires { ⌜ RowStands (now numbers) (now points) start end next ⌝ }
-    ensures { λ r. ⌜ Inserts start end next (now (numbers .entry)) (now (points .entry)) (now (numbers .exit)) (now (points .exit)) ⌝ }
+// The tree from `end` to `next` goes to its place among the sorted trees from `start` to `end`, its labels with it.
+pub fn insert_tree(trees: &mut [u8], labels: &mut [u8], start: usize, end: usize, next: usize)
+    requires { ⌜ SiblingsStand (now trees) (now labels) start end next ⌝ }
+    ensures { λ r. ⌜ Inserts start end next (now (trees .entry)) (now (labels .entry)) (now (trees .exit)) (now (labels .exit)) ⌝ }
 {
-    let p = start + points_before(&numbers[end..next], &numbers[start..end]);
-    exchange(numbers, p, end, next);
-    exchange(points, p, end, next);
+    let p = start + points_before(&trees[end..next], &trees[start..end]);
+    exchange(trees, p, end, next);
+    exchange(labels, p, end, next);
 }
 
 // `s` turned to begin at `a` is not greater than `s` turned to begin at `b`.
@@ -85,65 +85,48 @@ pub fn least_start(s: &[u8]) -> usize
     best
 }
 
-// `c` does not come after `d`: by number of points, and among equal numbers by generation order.
-fn not_after(c: &[u8], d: &[u8]) -> bool
-    requires { ⌜ BothValid (now c) (now d) ⌝ }
-    ensures { λ r. ⌜ ((x y : Component) → now (c .entry) ≡ flat x → now (d .entry) ≡ flat y → r ≡ atMost compareGenerated x y) ⌝ }
-{
-    if c.len() < d.len() {
-        return true;
-    }
-    if d.len() < c.len() {
-        return false;
-    }
-    match compare_generated(c, d) {
-        Order::Less => true,
-        Order::Equal => true,
-        Order::Greater => false,
-    }
-}
-
 // A place among components: how many stand before it, and how many points they have.
 pub struct Place {
     pub index: usize,
     pub at: usize,
 }
 
-// The place before the first component of `row` that `c` does not come after.
-fn component_place(c: &[u8], sizes: &[u8], row: &[u8]) -> Place
-    requires { ⌜ PlaceAsked (now c) (now sizes) (now row) ⌝ }
-    ensures { λ r. ⌜ ((x : Component) (S : System) → now (c .entry) ≡ flat x → now (sizes .entry) ≡ map pointsOf S → now (row .entry) ≡ gather flat S
+// The place before the first of the components that `c` does not come after.
+fn component_place(c: &[u8], sizes: &[u8], trees: &[u8]) -> Place
+    requires { ⌜ PlaceAsked (now c) (now sizes) (now trees) ⌝ }
+    ensures { λ r. ⌜ ((x : Component) (S : System) → now (c .entry) ≡ flat x → now (sizes .entry) ≡ map pointsOf S → now (trees .entry) ≡ gather flat S
         → PlaceFound x S r) ⌝ }
 {
     let mut index = 0;
     let mut at = 0;
     while index < sizes.len() {
         let next = at + sizes[index] as usize;
-        if not_after(c, &row[at..next]) {
-            return Place { index, at };
+        match compare_generated(c, &trees[at..next]) {
+            Order::Less => return Place { index, at },
+            Order::Equal => return Place { index, at },
+            Order::Greater => at = next,
         }
-        at = next;
         index += 1;
     }
     Place { index, at }
 }
 
-// The component from `end` to `next` goes to its place among the `m` components before it, its size and its points with it.
+// The component from `end` to `next` goes to its place among the `m` components before it, its size and its labels with it.
 pub fn insert_component(
     sizes: &mut [u8],
     m: usize,
-    numbers: &mut [u8],
-    points: &mut [u8],
+    trees: &mut [u8],
+    labels: &mut [u8],
     end: usize,
     next: usize,
 )
-    requires { ⌜ InsertAsked (now sizes) m (now numbers) (now points) end next ⌝ }
-    ensures { λ r. ⌜ ComponentInserted m end next (now (sizes .entry)) (now (numbers .entry)) (now (points .entry))
-        (now (sizes .exit)) (now (numbers .exit)) (now (points .exit)) ⌝ }
+    requires { ⌜ InsertAsked (now sizes) m (now trees) (now labels) end next ⌝ }
+    ensures { λ r. ⌜ ComponentInserted m end next (now (sizes .entry)) (now (trees .entry)) (now (labels .entry))
+        (now (sizes .exit)) (now (trees .exit)) (now (labels .exit)) ⌝ }
 {
-    let place = component_place(&numbers[end..next], &sizes[..m], &numbers[0..end]);
+    let place = component_place(&trees[end..next], &sizes[..m], &trees[0..end]);
     sizes[m] = (next - end) as u8;
     exchange(sizes, place.index, m, m + 1);
-    exchange(numbers, place.at, end, next);
-    exchange(points, place.at, end, next);
+    exchange(trees, place.at, end, next);
+    exchange(labels, place.at, end, next);
 }

@@ -14,7 +14,7 @@ use Rattle.arrangement.specs.Arrangement.{Planted}
 use Rattle.coding.specs.Writing.{TreeAsked, CycleAsked}
 use Rattle.map_theory.proofs.Isomorphisms.{table-below}
 use Rattle.map_theory.proofs.Leaders.{cycle-period}
-use Rattle.arrangement.proofs.Planting.{points-plants, planted-then, planted-numbers, planted-labels}
+use Rattle.arrangement.proofs.Planting.{points-plants, planted-then, planted-trees, planted-labels}
 
 -- from y the walk goes over the points l, none of them x, and comes to x
 pub data Walk (f : ℕ → ℕ) (x : ℕ) : ℕ → List ℕ → Type 0 where
@@ -36,13 +36,13 @@ module _ {f : ℕ → ℕ} {x : ℕ} where
   orbit-walk (suc p) y e h = onward (h 0 (omega arith)) (orbit-walk p (f y) e (λ i b. h (suc i) (omega arith)))
 
 -- the trees at the points done are written, the walk is at y, and the points rest are next
-pub record Circling (f : List ℕ) (x at : ℕ) (d e : List ℕ) (y end : ℕ) (numbers labelled : List ℕ) : Type 0 where
+pub record Circling (f : List ℕ) (x at : ℕ) (d e : List ℕ) (y end : ℕ) (trees labels : List ℕ) : Type 0 where
   pub done : List ℕ
   pub rest : List ℕ
   pub cycle : cycleFrom (length f) (image f) x ≡ done ++ rest
   pub walk : Walk (image f) x y rest
   pub here : y < length f
-  pub planted : Planted (map (plantAt f) done) at d e end numbers labelled
+  pub planted : Planted (map (plantAt f) done) at d e end trees labels
 
 module _ {f last before : List ℕ} {x at : ℕ} {d e : List ℕ} (a : CycleAsked f last before x d e at) where
   -- the point x itself, and the others
@@ -70,8 +70,8 @@ module _ {f last before : List ℕ} {x at : ℕ} {d e : List ℕ} (a : CycleAske
         room = omega (arith, a .room);
       }
 
-  pub circling-start : {end : ℕ} {numbers labelled : List ℕ} → Planted (plantAt f x ∷ []) at d e end numbers labelled
-      → Circling f x at d e (image f x) end numbers labelled
+  pub circling-start : {end : ℕ} {trees labels : List ℕ} → Planted (plantAt f x ∷ []) at d e end trees labels
+      → Circling f x at d e (image f x) end trees labels
   circling-start w =
       record {
         done = x ∷ [];
@@ -82,20 +82,20 @@ module _ {f last before : List ℕ} {x at : ℕ} {d e : List ℕ} (a : CycleAske
         planted = w;
       }
 
-  module _ {y end : ℕ} {numbers labelled : List ℕ} (c : Circling f x at d e y end numbers labelled) where
+  module _ {y end : ℕ} {trees labels : List ℕ} (c : Circling f x at d e y end trees labels) where
     pub circling-bound : end ≤ length f
     circling-bound = omega (arith, c .planted .ends, sum (c .done) (c .rest) (c .cycle), a .room)
 
-    pub circling-numbers : length numbers ≡ length f
-    circling-numbers = planted-numbers (c .planted) (omega (arith, circling-bound, a .prepared .numbers-room)) ∙ a .prepared .numbers-room
+    pub circling-trees : length trees ≡ length f
+    circling-trees = planted-trees (c .planted) (omega (arith, circling-bound, a .prepared .trees-room)) ∙ a .prepared .trees-room
 
-    pub circling-labels : length labelled ≡ length f
+    pub circling-labels : length labels ≡ length f
     circling-labels = planted-labels (c .planted) (omega (arith, circling-bound, a .prepared .labels-room)) ∙ a .prepared .labels-room
 
     -- the cycle is closed
-    pub circling-end : y ≡ x → Planted (plantsAlong f x) at d e end numbers labelled
+    pub circling-end : y ≡ x → Planted (plantsAlong f x) at d e end trees labels
     circling-end q =
-        subst (λ l. Planted (map (plantAt f) l) at d e end numbers labelled)
+        subst (λ l. Planted (map (plantAt f) l) at d e end trees labels)
         (sym (c .cycle ∙ ap (λ l. c .done ++ l) (walk-home (c .walk) q) ∙ append-nil (c .done))) (c .planted)
 
     module _ (q : y ≡ x → ⊥) where
@@ -109,14 +109,14 @@ module _ {f last before : List ℕ} {x at : ℕ} {d e : List ℕ} (a : CycleAske
       fits = omega (arith, c .planted .ends, sum (c .done) (y ∷ later) split, a .room)
 
       -- the tree at y may be asked for
-      pub circling-asked : TreeAsked f last before y (length f - end) numbers labelled end
+      pub circling-asked : TreeAsked f last before y (length f - end) trees labels end
       circling-asked =
           record {
             prepared =
                 record {
                   table = a .prepared .table;
                   small = a .prepared .small;
-                  numbers-room = circling-numbers;
+                  trees-room = circling-trees;
                   labels-room = circling-labels;
                 };
             links = a .links;
@@ -125,12 +125,12 @@ module _ {f last before : List ℕ} {x at : ℕ} {d e : List ℕ} (a : CycleAske
             room = omega (arith, fits);
           }
 
-      module _ {next : ℕ} {numbers′ labelled′ : List ℕ} (w : Planted (plantAt f y ∷ []) end numbers labelled next numbers′ labelled′) where
+      module _ {next : ℕ} {trees′ labels′ : List ℕ} (w : Planted (plantAt f y ∷ []) end trees labels next trees′ labels′) where
         pub circling-less : length f - next < length f - end
         circling-less = omega (arith, w .ends, fits, size-positive (shape (plantAt f y)))
 
         -- the walk goes on
-        pub circling-next : Circling f x at d e (image f y) next numbers′ labelled′
+        pub circling-next : Circling f x at d e (image f y) next trees′ labels′
         circling-next =
             record {
               done = c .done ++ (y ∷ []);
@@ -138,9 +138,9 @@ module _ {f last before : List ℕ} {x at : ℕ} {d e : List ℕ} (a : CycleAske
               cycle = split ∙ sym (append-assoc (c .done) (y ∷ []) later);
               walk = (walk-on (c .walk) q) .2;
               here = table-below (length f) f refl (a .prepared .table) y (c .here);
-              planted = subst (λ us. Planted us at d e next numbers′ labelled′) (sym (map-append (plantAt f) (c .done) (y ∷ [])))
+              planted = subst (λ us. Planted us at d e next trees′ labels′) (sym (map-append (plantAt f) (c .done) (y ∷ [])))
                   (planted-then
-                  (omega (arith, circling-bound, c .planted .ends, a .prepared .numbers-room))
+                  (omega (arith, circling-bound, c .planted .ends, a .prepared .trees-room))
                   (omega (arith, circling-bound, c .planted .ends, a .prepared .labels-room))
                   (c .planted) w);
             }

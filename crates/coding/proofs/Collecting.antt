@@ -31,8 +31,8 @@ use Rattle.map_theory.proofs.Leaders.{leads-onCycle}
 use Rattle.map_theory.proofs.SortedCanonical.{sort-generated, sorted-canonical, nonempty-points}
 use Rattle.map_theory.proofs.Labelled.{picture-isomorphism}
 use Rattle.map_theory.proofs.Shown.{length-labels, system-shown}
-use Rattle.arrangement.proofs.Planting.{planted-none, planted-then, planted-numbers, planted-labels}
-use Rattle.arrangement.proofs.ComponentInserting.{joined-flat, joined-points, joined-labels, inserting-row, inserting-last}
+use Rattle.arrangement.proofs.Planting.{planted-none, planted-then, planted-trees, planted-labels}
+use Rattle.arrangement.proofs.ComponentInserting.{joined-flat, joined-points, joined-labels, inserting-trees, inserting-last}
 use Rattle.map_theory.proofs.FromLeaders.{pointsFrom, from-none, from-skip, from-take, from-all, from-bound, turned-arrows, turned-cycle}
 
 -- valid components have a point each
@@ -52,13 +52,13 @@ shapes-sorted : (made : List (List Plant)) → sort compareGenerated (shapes mad
 shapes-sorted made = sort-map compareShapes compareGenerated (map shape) made (λ c d i j. refl)
 
 -- the components made of the leaders from x on, sorted, are written up to `end`, their sizes in the first m places
-pub record Collecting (f d e : List ℕ) (x end m : ℕ) (sizes numbers labelled : List ℕ) : Type 0 where
+pub record Collecting (f d e : List ℕ) (x end m : ℕ) (sizes trees labelled : List ℕ) : Type 0 where
   pub passed : x ≤ length f
   pub made : List (List Plant)
   pub sizes-room : length sizes ≡ length f
   pub count : m ≡ length made
   pub sizes-are : take m sizes ≡ map points (shapes (sort compareShapes made))
-  pub planted : Planted (joined (sort compareShapes made)) 0 d e end numbers labelled
+  pub planted : Planted (joined (sort compareShapes made)) 0 d e end trees labelled
   pub valid : each validComponent (shapes made) ≡ true
   pub arrows : (c : List Plant) (t : Plant) → c ∈ made → t ∈ c → Arrows (image f) t
   pub cycles : (c : List Plant) → c ∈ made → map (image f) (map root c) ≡ turn (map root c)
@@ -79,8 +79,8 @@ collecting-start f d e sizes h =
       points-are = perm-path (sym (from-none f (length f) (omega arith)));
     }
 
-module _ {f marks d e : List ℕ} {x end m : ℕ} {sizes₀ sizes numbers labelled : List ℕ} (a : SystemAsked f marks sizes₀ d e)
-    (g : Collecting f d e x end m sizes numbers labelled) where
+module _ {f marks d e : List ℕ} {x end m : ℕ} {sizes₀ sizes trees labelled : List ℕ} (a : SystemAsked f marks sizes₀ d e)
+    (g : Collecting f d e x end m sizes trees labelled) where
   valid-sorted : each validComponent (shapes (sorted (g .made))) ≡ true
   valid-sorted = ap (each validComponent) (sym (shapes-sorted (g .made))) ∙ sort-each compareGenerated validComponent (shapes (g .made)) ∙ g .valid
 
@@ -113,14 +113,14 @@ module _ {f marks d e : List ℕ} {x end m : ℕ} {sizes₀ sizes numbers labell
       let b : end ≤ length f = omega (arith, end-is, from-bound f (a .prepared .table) x (g .passed)) in
       (b, omega (arith, count-bound))
 
-  pub collecting-numbers : length numbers ≡ length f
-  collecting-numbers = planted-numbers (g .planted) (omega (arith, collecting-bound, a .prepared .numbers-room)) ∙ a .prepared .numbers-room
+  pub collecting-trees : length trees ≡ length f
+  collecting-trees = planted-trees (g .planted) (omega (arith, collecting-bound, a .prepared .trees-room)) ∙ a .prepared .trees-room
 
   pub collecting-labels : length labelled ≡ length f
   collecting-labels = planted-labels (g .planted) (omega (arith, collecting-bound, a .prepared .labels-room)) ∙ a .prepared .labels-room
 
   -- z leads no cycle
-  pub collecting-skip : (z : ℕ) → x ≡ z + 1 → leadsCycle (length f) (image f) z ≡ false → Collecting f d e z end m sizes numbers labelled
+  pub collecting-skip : (z : ℕ) → x ≡ z + 1 → leadsCycle (length f) (image f) z ≡ false → Collecting f d e z end m sizes trees labelled
   collecting-skip z q t =
       record {
         passed = omega (arith, g .passed);
@@ -151,14 +151,14 @@ module _ {f marks d e : List ℕ} {x end m : ℕ} {sizes₀ sizes numbers labell
         )
 
     -- the component at z may be asked for
-    pub collecting-asked : {last before : List ℕ} → Links f (length f) last before → CycleAsked f last before z numbers labelled end
+    pub collecting-asked : {last before : List ℕ} → Links f (length f) last before → CycleAsked f last before z trees labelled end
     collecting-asked l =
         record {
           prepared =
               record {
                 table = a .prepared .table;
                 small = a .prepared .small;
-                numbers-room = collecting-numbers;
+                trees-room = collecting-trees;
                 labels-room = collecting-labels;
               };
           links = l;
@@ -167,11 +167,11 @@ module _ {f marks d e : List ℕ} {x end m : ℕ} {sizes₀ sizes numbers labell
           room = room;
         }
 
-    module _ {next : ℕ} {numbers′ labelled′ : List ℕ} (w : ComponentWritten f z end numbers labelled next numbers′ labelled′) where
-      all : Planted (joined (sorted (g .made)) ++ w .plants) 0 d e next numbers′ labelled′
+    module _ {next : ℕ} {trees′ labelled′ : List ℕ} (w : ComponentWritten f z end trees labelled next trees′ labelled′) where
+      all : Planted (joined (sorted (g .made)) ++ w .plants) 0 d e next trees′ labelled′
       all =
           planted-then
-          (omega (arith, collecting-bound, g .planted .ends, a .prepared .numbers-room))
+          (omega (arith, collecting-bound, g .planted .ends, a .prepared .trees-room))
           (omega (arith, collecting-bound, g .planted .ends, a .prepared .labels-room))
           (g .planted) (w .planted)
 
@@ -197,31 +197,31 @@ module _ {f marks d e : List ℕ} {x end m : ℕ} {sizes₀ sizes numbers labell
       counted = omega (arith, g .sizes-room, next-bound, count-bound)
 
       -- it may be inserted among the others
-      pub collecting-insert : InsertAsked sizes m numbers′ labelled′ end next
+      pub collecting-insert : InsertAsked sizes m trees′ labelled′ end next
       collecting-insert =
           record {
             system = shapes (sorted (g .made));
             component = map shape (w .plants);
             sizes-are = g .sizes-are;
-            row-is = inserting-row (sorted (g .made)) (w .plants) ends all;
+            trees-are = inserting-trees (sorted (g .made)) (w .plants) ends all;
             component-is = inserting-last (sorted (g .made)) (w .plants) ends all;
             system-valid = valid-sorted;
             component-valid = w .valid;
             count = counted;
             after = omega (arith, next-bound);
-            fits = omega (arith, next-bound, planted-numbers all (omega (arith, next-bound, a .prepared .numbers-room)), a .prepared .numbers-room);
+            fits = omega (arith, next-bound, planted-trees all (omega (arith, next-bound, a .prepared .trees-room)), a .prepared .trees-room);
             same =
                 planted-labels all (omega (arith, next-bound, a .prepared .labels-room)) ∙ a .prepared .labels-room
-                ∙ sym (planted-numbers all (omega (arith, next-bound, a .prepared .numbers-room)) ∙ a .prepared .numbers-room);
-            small = omega (arith, planted-numbers all (omega (arith, next-bound, a .prepared .numbers-room)), a .prepared .numbers-room, a .prepared .small);
+                ∙ sym (planted-trees all (omega (arith, next-bound, a .prepared .trees-room)) ∙ a .prepared .trees-room);
+            small = omega (arith, planted-trees all (omega (arith, next-bound, a .prepared .trees-room)), a .prepared .trees-room, a .prepared .small);
           }
 
       -- and then the components of the leaders from z on are written
-      pub collecting-take : {sizes′ numbers″ labelled″ : List ℕ} → length sizes′ ≡ length sizes
-          → ComponentInserted m end next sizes numbers′ labelled′ sizes′ numbers″ labelled″ → Collecting f d e z next (m + 1) sizes′ numbers″ labelled″
-      collecting-take {sizes′} {numbers″} {labelled″} l i =
+      pub collecting-take : {sizes′ trees″ labelled″ : List ℕ} → length sizes′ ≡ length sizes
+          → ComponentInserted m end next sizes trees′ labelled′ sizes′ trees″ labelled″ → Collecting f d e z next (m + 1) sizes′ trees″ labelled″
+      collecting-take {sizes′} {trees″} {labelled″} l i =
           let r = i .inserts (sorted (g .made)) (w .plants) d e
-          (omega (arith, next-bound, a .prepared .numbers-room)) (omega (arith, next-bound, a .prepared .labels-room)) counted (g .sizes-are) ends all in
+          (omega (arith, next-bound, a .prepared .trees-room)) (omega (arith, next-bound, a .prepared .labels-room)) counted (g .sizes-are) ends all in
           record {
             passed = omega (arith, g .passed);
             made = w .plants ∷ g .made;
@@ -268,15 +268,15 @@ module _ {f marks d e : List ℕ} {x end m : ℕ} {sizes₀ sizes numbers labell
     full = omega (arith, end-is, perm-length (perm-trans (perm-path (ap (pointsFrom f) z)) (from-all f (a .prepared .table))), range-length 0 (length f))
 
     -- at the end the system is written
-    pub collecting-end : SystemWritten f m sizes numbers labelled
+    pub collecting-end : SystemWritten f m sizes trees labelled
     collecting-end =
         record {
           within = omega (arith, g .sizes-room, collecting-bound);
           sizes-are = g .sizes-are ∙ ap (map points) (sym shown);
-          numbers-are =
-              g .planted .numbers-are
+          trees-are =
+              g .planted .trees-are
               ∙ placed-all (flat (map shape (joined (sorted (g .made))))) d
-              (omega (arith, length-flat (map shape (joined (sorted (g .made)))), g .planted .ends, full, a .prepared .numbers-room))
+              (omega (arith, length-flat (map shape (joined (sorted (g .made)))), g .planted .ends, full, a .prepared .trees-room))
               ∙ joined-flat (sorted (g .made))
               ∙ ap (gather flat) (sym shown);
           labels-are =

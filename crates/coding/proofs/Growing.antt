@@ -22,14 +22,14 @@ use Rattle.patterns.proofs.Trees.{size-positive, size-graft, code-branches, bra
 use Rattle.written.specs.Putting.{placed}
 use Rattle.map_theory.specs.Plants.{Plant, tip, shape, root, labels, plantOn, comparePlant, plantTo, plantAt}
 use Rattle.cycles.specs.Links.{lastBelow}
-use Rattle.arrangement.specs.Arrangement.{Planted, RowStands, Inserts}
+use Rattle.arrangement.specs.Arrangement.{Planted, SiblingsStand, Inserts}
 use Rattle.coding.specs.Writing.{Prepared, TreeAsked}
 use Rattle.lists.proofs.Gathering.{map-same}
 use Rattle.cycles.proofs.Linking.{last-skip, last-take, last-bound, last-hangs}
 use Rattle.map_theory.proofs.PlantAt.{plantOn-shape, plantOn-labels}
 use Rattle.map_theory.proofs.Shown.{length-labels}
 use Rattle.memory.proofs.Standing.{stands-left, stands-path}
-use Rattle.arrangement.proofs.Planting.{flat-plants, planted-none, planted-then, planted-numbers, planted-labels, planted-stands}
+use Rattle.arrangement.proofs.Planting.{flat-plants, planted-none, planted-then, planted-trees, planted-labels, planted-stands}
 
 -- the number of points of a plant
 abbrev pub plantSize : Plant → ℕ
@@ -146,19 +146,19 @@ module _ (f : List ℕ) (x : ℕ) where
       (λ t. ap branchesFrom (last-skip f x k t) ∙ branches-last k (omega arith) ∙ branches-skip (suc k) k (sym (add-one k)) h t)
 
 -- the branches from y on are written, and end at `end`; the point before y, if any, hangs at x
-pub record Growing (f : List ℕ) (x at : ℕ) (d e : List ℕ) (y end : ℕ) (numbers labelled : List ℕ) : Type 0 where
+pub record Growing (f : List ℕ) (x at : ℕ) (d e : List ℕ) (y end : ℕ) (trees labelled : List ℕ) : Type 0 where
   pub passed : y ≤ length f
   pub hangs : (z : ℕ) → y ≡ z + 1 → hangsAt (length f) (image f) x z ≡ true
-  pub planted : Planted (branchesFrom f x y) (at + 1) d e end numbers labelled
+  pub planted : Planted (branchesFrom f x y) (at + 1) d e end trees labelled
 
 -- the branches from k on are written: a link leads to the next one
-growing-link : {f : List ℕ} {x at : ℕ} {d e : List ℕ} (k : ℕ) {y end : ℕ} {numbers labelled : List ℕ} → k ≤ length f → y ≡ lastBelow f x k
-    → Planted (branchesFrom f x k) (at + 1) d e end numbers labelled → Growing f x at d e y end numbers labelled
-growing-link {f} {x} {at} {d} {e} k {y} {end} {numbers} {labelled} h q p =
+growing-link : {f : List ℕ} {x at : ℕ} {d e : List ℕ} (k : ℕ) {y end : ℕ} {trees labelled : List ℕ} → k ≤ length f → y ≡ lastBelow f x k
+    → Planted (branchesFrom f x k) (at + 1) d e end trees labelled → Growing f x at d e y end trees labelled
+growing-link {f} {x} {at} {d} {e} k {y} {end} {trees} {labelled} h q p =
     record {
       passed = omega (arith, last-bound f x k);
       hangs = λ z r. last-hangs f x k z (sym q ∙ r);
-      planted = subst (λ us. Planted us (at + 1) d e end numbers labelled) (sym (ap (branchesFrom f x) q ∙ branches-last f x k h)) p;
+      planted = subst (λ us. Planted us (at + 1) d e end trees labelled) (sym (ap (branchesFrom f x) q ∙ branches-last f x k h)) p;
     }
 
 pub growing-start : {f last before : List ℕ} {x left at : ℕ} {d e : List ℕ} → TreeAsked f last before x left d e at
@@ -167,8 +167,8 @@ growing-start {f} {last} {before} {x} {left} {at} {d} {e} a =
     growing-link (length f) (omega arith) (a .links .last-are x (a .here))
     (subst (λ us. Planted us (at + 1) d e (at + 1) d e) (sym (branches-none f x (length f) (omega arith))) (planted-none (at + 1) d e))
 
-module _ {f last before : List ℕ} {x left at : ℕ} {d e : List ℕ} {y end : ℕ} {numbers labelled : List ℕ}
-    (a : TreeAsked f last before x left d e at) (g : Growing f x at d e y end numbers labelled) where
+module _ {f last before : List ℕ} {x left at : ℕ} {d e : List ℕ} {y end : ℕ} {trees labelled : List ℕ}
+    (a : TreeAsked f last before x left d e at) (g : Growing f x at d e y end trees labelled) where
   whole : plantSize (plantAt f x) ≤ length f
   whole = omega (arith, a .bounded, a .room)
 
@@ -179,18 +179,18 @@ module _ {f last before : List ℕ} {x left at : ℕ} {d e : List ℕ} {y end : 
       let b = branches-bound f x y (g .passed) whole in
       (omega arith, omega (arith, a .bounded), omega (arith, a .bounded, a .room))
 
-  pub growing-numbers : length numbers ≡ length f
-  growing-numbers = planted-numbers (g .planted) (omega (arith, growing-bound, a .prepared .numbers-room)) ∙ a .prepared .numbers-room
+  pub growing-trees : length trees ≡ length f
+  growing-trees = planted-trees (g .planted) (omega (arith, growing-bound, a .prepared .trees-room)) ∙ a .prepared .trees-room
 
   pub growing-labels : length labelled ≡ length f
   growing-labels = planted-labels (g .planted) (omega (arith, growing-bound, a .prepared .labels-room)) ∙ a .prepared .labels-room
 
-  pub growing-prepared : Prepared f numbers labelled
+  pub growing-prepared : Prepared f trees labelled
   growing-prepared =
       record {
         table = a .prepared .table;
         small = a .prepared .small;
-        numbers-room = growing-numbers;
+        trees-room = growing-trees;
         labels-room = growing-labels;
       }
 
@@ -199,7 +199,7 @@ module _ {f last before : List ℕ} {x left at : ℕ} {d e : List ℕ} {y end : 
     fits = branch-bound f x y z q (g .passed) (g .hangs z q) whole
 
     -- the tree at z may be asked for
-    pub growing-asked : TreeAsked f last before z (left - (end - at)) numbers labelled end
+    pub growing-asked : TreeAsked f last before z (left - (end - at)) trees labelled end
     growing-asked =
         let p = g .planted .ends in
         record {
@@ -214,45 +214,45 @@ module _ {f last before : List ℕ} {x left at : ℕ} {d e : List ℕ} {y end : 
     pub growing-less : getD before z 0 < y
     growing-less = omega (arith, a .links .before-are x z (omega (arith, g .passed)) (g .hangs z q), last-bound f x z)
 
-    module _ {next : ℕ} {numbers′ labelled′ : List ℕ} (w : Planted (plantAt f z ∷ []) end numbers labelled next numbers′ labelled′) where
+    module _ {next : ℕ} {trees′ labelled′ : List ℕ} (w : Planted (plantAt f z ∷ []) end trees labelled next trees′ labelled′) where
       next-bound : next ≤ length f
       next-bound = omega (arith, w .ends, g .planted .ends, fits, a .bounded, a .room)
 
-      joined : Planted (branchesFrom f x y ++ (plantAt f z ∷ [])) (at + 1) d e next numbers′ labelled′
+      joined : Planted (branchesFrom f x y ++ (plantAt f z ∷ [])) (at + 1) d e next trees′ labelled′
       joined =
           let p = g .planted .ends in
           planted-then
-          (omega (arith, growing-bound, a .prepared .numbers-room))
+          (omega (arith, growing-bound, a .prepared .trees-room))
           (omega (arith, growing-bound, a .prepared .labels-room))
           (g .planted) w
 
-      numbers-kept : length numbers′ ≡ length f
-      numbers-kept = planted-numbers w (omega (arith, next-bound, growing-numbers)) ∙ growing-numbers
+      trees-kept : length trees′ ≡ length f
+      trees-kept = planted-trees w (omega (arith, next-bound, growing-trees)) ∙ growing-trees
 
       labels-kept : length labelled′ ≡ length f
       labels-kept = planted-labels w (omega (arith, next-bound, growing-labels)) ∙ growing-labels
 
       -- the tree at z may be inserted among the others
-      pub growing-row : RowStands numbers′ labelled′ (at + 1) end next
-      growing-row =
+      pub growing-siblings : SiblingsStand trees′ labelled′ (at + 1) end next
+      growing-siblings =
           record {
-            trees = map shape (branchesFrom f x y);
+            siblings = map shape (branchesFrom f x y);
             stands = stands-left (flat (map shape (plantAt f z ∷ [])))
-                (stands-path (flat-plants (branchesFrom f x y) (plantAt f z ∷ [])) (planted-stands (omega (arith, growing-bound, a .prepared .numbers-room)) joined));
+                (stands-path (flat-plants (branchesFrom f x y) (plantAt f z ∷ [])) (planted-stands (omega (arith, growing-bound, a .prepared .trees-room)) joined));
             ends = g .planted .ends;
             after = omega (arith, w .ends);
-            fits = omega (arith, next-bound, numbers-kept);
-            same = labels-kept ∙ sym numbers-kept;
+            fits = omega (arith, next-bound, trees-kept);
+            same = labels-kept ∙ sym trees-kept;
           }
 
       -- and then the branches from z on are written, and the link of z leads to the next one
-      pub growing-take : {numbers″ labelled″ : List ℕ} → Inserts (at + 1) end next numbers′ labelled′ numbers″ labelled″
-          → Growing f x at d e (getD before z 0) next numbers″ labelled″
-      growing-take {numbers″} {labelled″} i =
+      pub growing-take : {trees″ labelled″ : List ℕ} → Inserts (at + 1) end next trees′ labelled′ trees″ labelled″
+          → Growing f x at d e (getD before z 0) next trees″ labelled″
+      growing-take {trees″} {labelled″} i =
           growing-link z (omega (arith, g .passed)) (a .links .before-are x z (omega (arith, g .passed)) (g .hangs z q))
-          (subst (λ us. Planted us (at + 1) d e next numbers″ labelled″) (sym (branches-take f x y z q (g .passed) (g .hangs z q)))
+          (subst (λ us. Planted us (at + 1) d e next trees″ labelled″) (sym (branches-take f x y z q (g .passed) (g .hangs z q)))
           (i .inserts (branchesFrom f x y) (plantAt f z) d e
-          (omega (arith, next-bound, a .prepared .numbers-room)) (omega (arith, next-bound, a .prepared .labels-room)) (g .planted .ends) joined))
+          (omega (arith, next-bound, a .prepared .trees-room)) (omega (arith, next-bound, a .prepared .labels-room)) (g .planted .ends) joined))
 
 -- one entry before what is placed
 set-placed : (at v : ℕ) (l d : List ℕ) → at + 1 + length l ≤ length d → set (placed (at + 1) l d) at v ≡ placed at (v ∷ l) d
@@ -266,7 +266,7 @@ set-placed at v l d h =
     ∙ set-at (take at d) y r v at (length-take-le at d (omega arith))
     ∙ ap (λ k. take at d ++ (v ∷ (l ++ drop k d))) q
 
--- the numbers and the points of a plant, by its branches
+-- the trees and the labels of a plant, by its branches
 code-plant : (x : ℕ) (us : List Plant) → code (shape (plantOn (tip x) us)) ≡ suc (points (map shape us)) ∷ flat (map shape us)
 code-plant x us =
     ap code (plantOn-shape (tip x) us)
@@ -274,19 +274,19 @@ code-plant x us =
     ∙ ap₂ (λ k bs. k ∷ flat bs) (size-graft (map shape us)) (branches-graft (map shape us))
 
 -- all branches are written: the root is written before them
-pub growing-end : {f last before : List ℕ} {x left at : ℕ} {d e : List ℕ} {y end : ℕ} {numbers labelled : List ℕ} → TreeAsked f last before x left d e at
-    → Growing f x at d e y end numbers labelled → y ≡ 0 → Planted (plantAt f x ∷ []) at d e end (set numbers at (end - at)) (set labelled at x)
-growing-end {f} {last} {before} {x} {left} {at} {d} {e} {y} {end} {numbers} {labelled} a g z =
+pub growing-end : {f last before : List ℕ} {x left at : ℕ} {d e : List ℕ} {y end : ℕ} {trees labelled : List ℕ} → TreeAsked f last before x left d e at
+    → Growing f x at d e y end trees labelled → y ≡ 0 → Planted (plantAt f x ∷ []) at d e end (set trees at (end - at)) (set labelled at x)
+growing-end {f} {last} {before} {x} {left} {at} {d} {e} {y} {end} {trees} {labelled} a g z =
     let us : List Plant = branchesFrom f x 0 in
-    let p : Planted us (at + 1) d e end numbers labelled = subst (λ k. Planted (branchesFrom f x k) (at + 1) d e end numbers labelled) z (g .planted) in
+    let p : Planted us (at + 1) d e end trees labelled = subst (λ k. Planted (branchesFrom f x k) (at + 1) d e end trees labelled) z (g .planted) in
     let plant : plantAt f x ≡ plantOn (tip x) us = plant-branches f x (whole a g) in
     let b = growing-bound a g in
     let n : end - at ≡ suc (points (map shape us)) = omega (arith, p .ends) in
     record {
       ends = omega (arith, p .ends, ap plantSize plant, plantOn-size x us);
-      numbers-are =
-          ap₂ (λ l k. set l at k) (p .numbers-are) n
-          ∙ set-placed at (suc (points (map shape us))) (flat (map shape us)) d (omega (arith, p .ends, length-flat (map shape us), a .prepared .numbers-room))
+      trees-are =
+          ap₂ (λ l k. set l at k) (p .trees-are) n
+          ∙ set-placed at (suc (points (map shape us))) (flat (map shape us)) d (omega (arith, p .ends, length-flat (map shape us), a .prepared .trees-room))
           ∙ ap (λ l. placed at l d) (sym (append-nil (code (shape (plantAt f x))) ∙ ap (λ t. code (shape t)) plant ∙ code-plant x us));
       labels-are =
           ap (λ l. set l at x) (p .labels-are)

@@ -22,7 +22,7 @@ use Rattle.coding.specs.Writing.{CycleAsked, ComponentWritten}
 use Rattle.map_theory.proofs.PlantAt.{plantTo-shape, treeTo-valid}
 use Rattle.map_theory.proofs.Exists.{map-cut}
 use Rattle.memory.proofs.Standing.{stands-part}
-use Rattle.arrangement.proofs.Planting.{planted-stands, planted-exchanged, planted-numbers, planted-labels}
+use Rattle.arrangement.proofs.Planting.{planted-stands, planted-exchanged, planted-trees, planted-labels}
 
 -- a component turned to its least rotation is valid where its trees are
 pub least-valid : (c : Component) {r : ℕ} (l : LeastStart c r) → nonempty c ≡ true → each validTree c ≡ true → validComponent (l .back ++ l .front) ≡ true
@@ -46,15 +46,15 @@ along-trees f x =
     ap validTree (r .2 ∙ ap shape (s .2) ∙ plantTo-shape (length f) (image f) (length f) (s .0)) ∙ treeTo-valid (length f) (image f) (length f) (s .0))
 
 module _ {f last before : List ℕ} {x at : ℕ} {d e : List ℕ} (a : CycleAsked f last before x d e at)
-    {end : ℕ} {numbers labelled : List ℕ} (p : Planted (plantsAlong f x) at d e end numbers labelled) where
+    {end : ℕ} {trees labels : List ℕ} (p : Planted (plantsAlong f x) at d e end trees labels) where
   pub written-bound : (at ≤ end) × (end ≤ length f)
   written-bound = (omega (arith, p .ends), omega (arith, p .ends, a .room))
 
   -- what stands from at to end
-  pub written-part : take (end - at) (drop at numbers) ≡ flat (map shape (plantsAlong f x))
+  pub written-part : take (end - at) (drop at trees) ≡ flat (map shape (plantsAlong f x))
   written-part =
       stands-part end (omega (arith, p .ends, length-flat (map shape (plantsAlong f x))))
-      (planted-stands (omega (arith, written-bound, a .prepared .numbers-room)) p)
+      (planted-stands (omega (arith, written-bound, a .prepared .trees-room)) p)
 
   module _ {r : ℕ} (l : LeastStart (map shape (plantsAlong f x)) r) where
     -- the place to turn to lies within
@@ -62,17 +62,17 @@ module _ {f last before : List ℕ} {x at : ℕ} {d e : List ℕ} (a : CycleAske
     turn-bound = omega (arith, p .ends, l .place, ap points (l .cut), points-append (l .front) (l .back))
 
     -- both slices may be turned there
-    pub turn-numbers : (at ≤ at + r) × (at + r ≤ end) × (end ≤ length numbers)
-    turn-numbers =
-        let n = planted-numbers p (omega (arith, written-bound, a .prepared .numbers-room)) in
-        (omega arith, turn-bound, omega (arith, written-bound, a .prepared .numbers-room))
+    pub turn-trees : (at ≤ at + r) × (at + r ≤ end) × (end ≤ length trees)
+    turn-trees =
+        let n = planted-trees p (omega (arith, written-bound, a .prepared .trees-room)) in
+        (omega arith, turn-bound, omega (arith, written-bound, a .prepared .trees-room))
 
-    pub turn-labels : (at ≤ at + r) × (at + r ≤ end) × (end ≤ length labelled)
+    pub turn-labels : (at ≤ at + r) × (at + r ≤ end) × (end ≤ length labels)
     turn-labels =
         let n = planted-labels p (omega (arith, written-bound, a .prepared .labels-room)) in
         (omega arith, turn-bound, omega (arith, written-bound, a .prepared .labels-room))
 
-    pub component-written : ComponentWritten f x at d e end (exchanged at (at + r) end numbers) (exchanged at (at + r) end labelled)
+    pub component-written : ComponentWritten f x at d e end (exchanged at (at + r) end trees) (exchanged at (at + r) end labels)
     component-written =
         let s = map-cut shape (plantsAlong f x) (l .front) (l .back) (l .cut) in
         let front : List Plant = s .0 in
@@ -84,7 +84,7 @@ module _ {f last before : List ℕ} {x at : ℕ} {d e : List ℕ} (a : CycleAske
           valid = ap validComponent q ∙ least-valid (map shape (plantsAlong f x)) l (along-nonempty f x) (along-trees f x);
           planted =
               planted-exchanged [] front back {mid = at} {end = at + r}
-              (omega (arith, written-bound, a .prepared .numbers-room)) (omega (arith, written-bound, a .prepared .labels-room))
+              (omega (arith, written-bound, a .prepared .trees-room)) (omega (arith, written-bound, a .prepared .labels-room))
               (omega arith) (omega (arith, l .place, ap points (s .3)))
-              (subst (λ us. Planted us at d e end numbers labelled) (s .2) p);
+              (subst (λ us. Planted us at d e end trees labels) (s .2) p);
         }

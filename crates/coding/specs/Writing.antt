@@ -1,4 +1,4 @@
--- What the functions from tables to codes find and leave in lent slices: numbers and, at the same places, points.
+-- What the functions from tables to systems find and leave in lent slices: trees and, at the same places, labels.
 use mathlib.Core.Path.{_≡_}
 use mathlib.Core.Bool.{true}
 use mathlib.Core.List.{List, map}
@@ -12,29 +12,29 @@ use Rattle.cycles.specs.Links.{Links}
 use Rattle.map_theory.specs.Plants.{Plant, shape, plantAt, plantsAlong}
 use Rattle.arrangement.specs.Arrangement.{Planted}
 
--- a table of at most 200 points, and room for a number and a label for each point
-pub record Prepared (f numbers labelled : List ℕ) : Type 0 where
+-- a table of at most 200 points, and room for a tree and a label for each point
+pub record Prepared (f trees labels : List ℕ) : Type 0 where
   pub table : isTable f ≡ true
   pub small : length f ≤ 200
-  pub numbers-room : length numbers ≡ length f
-  pub labels-room : length labelled ≡ length f
+  pub trees-room : length trees ≡ length f
+  pub labels-room : length labels ≡ length f
 
 -- the tree at x is asked for from place `at` on, and has at most `left` points, for which there is room
-pub record TreeAsked (f last before : List ℕ) (x left : ℕ) (numbers labelled : List ℕ) (at : ℕ) : Type 0 where
-  pub prepared : Prepared f numbers labelled
+pub record TreeAsked (f last before : List ℕ) (x left : ℕ) (trees labels : List ℕ) (at : ℕ) : Type 0 where
+  pub prepared : Prepared f trees labels
   pub links : Links f (length f) last before
   pub here : x < length f
   pub bounded : size (shape (plantAt f x)) ≤ left
   pub room : at + left ≤ length f
 
 -- the same, of some table that has these links
-pub record TreeOfLinks (last before : List ℕ) (x left : ℕ) (numbers labelled : List ℕ) (at : ℕ) : Type 0 where
+pub record TreeOfLinks (last before : List ℕ) (x left : ℕ) (trees labels : List ℕ) (at : ℕ) : Type 0 where
   pub of : List ℕ
-  pub asked : TreeAsked of last before x left numbers labelled at
+  pub asked : TreeAsked of last before x left trees labels at
 
 -- the trees along the cycle from x are asked for from place `at` on, and there is room for them
-pub record CycleAsked (f last before : List ℕ) (x : ℕ) (numbers labelled : List ℕ) (at : ℕ) : Type 0 where
-  pub prepared : Prepared f numbers labelled
+pub record CycleAsked (f last before : List ℕ) (x : ℕ) (trees labels : List ℕ) (at : ℕ) : Type 0 where
+  pub prepared : Prepared f trees labels
   pub links : Links f (length f) last before
   pub here : x < length f
   pub on : onCycle (length f) (image f) x ≡ true
@@ -42,8 +42,8 @@ pub record CycleAsked (f last before : List ℕ) (x : ℕ) (numbers labelled : L
 
 -- The component whose cycle goes through x was written from `start` to `end`: its plants along the cycle from some point on, turned so that the code
 -- is valid. Where several turns are least, which one it is is left free.
-pub record ComponentWritten (f : List ℕ) (x start : ℕ) (d e : List ℕ) (end : ℕ) (numbers labelled : List ℕ) : Type 0 where
+pub record ComponentWritten (f : List ℕ) (x start : ℕ) (d e : List ℕ) (end : ℕ) (trees labels : List ℕ) : Type 0 where
   pub plants : List Plant
   pub turned : Rotated (plantsAlong f x) plants
   pub valid : validComponent (map shape plants) ≡ true
-  pub planted : Planted plants start d e end numbers labelled
+  pub planted : Planted plants start d e end trees labels

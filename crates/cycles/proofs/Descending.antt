@@ -2,19 +2,19 @@
 use mathlib.Core.Path.{_≡_, refl, ap, sym, subst, _∙_}
 use mathlib.Core.Bool.{true, false}
 use mathlib.Core.List.{List, _++_}
-use Prim.Native.Nat.{ℕ, zero, suc, _+_, _-_, _≤_, _<_}
+use Prim.Native.Nat.{ℕ, suc, _+_, _-_, _≤_, _<_}
 use native.Mathlib.Omega.{arith}
-use lib.Dec.{eqb, ltb, leb}
-use borrow.Author.Tests.{eq-eqb, ne-eqb, eqb-true, eqb-false, ltb-true, ltb-false, leb-true, leb-false}
+use lib.Dec.{eqb, ltb}
+use borrow.Author.Tests.{eq-eqb, ne-eqb, eqb-true, eqb-false, ltb-true, ltb-false}
 use lib.ListN.{length, take, getD, set, replicate, length-set, length-append, length-replicate, getD-replicate}
-use lib.Seq.{getD-set-same, getD-set-other, take-at, length-take-le}
+use lib.Seq.{getD-set-same, getD-set-other, take-at}
 use Rattle.lists.proofs.Tests.{by-test, either, is-false, no-both}
 use Rattle.lists.proofs.Members.{in-cons-cases, in-list, in-moved}
-use Rattle.patterns.specs.Table.{image, isTable, onCycle, leadsCycle}
-use Rattle.cycles.specs.Leads.{Descends, Lesser, LesserAsked, LeadsAsked, Leads}
+use Rattle.patterns.specs.Table.{image, onCycle, leadsCycle}
+use Rattle.cycles.specs.Leads.{Descends, Lesser, Leads}
 use Rattle.map_theory.proofs.Orbits.{iterate, iterate-add, of-orbit, onCycle-moves, onCycle-back, iterate-inside}
 use Rattle.map_theory.proofs.Leaders.{cycle-period, in-cycle, leads-onCycle, leads-least, least-leads}
-use Rattle.cycles.proofs.Marks.{inside, marks-off, marks-on}
+use Rattle.cycles.proofs.Marks.{inside}
 
 module _ (n : ℕ) (f : ℕ → ℕ) where
   -- back at x, and only greater points on the way: x leads its cycle

@@ -8,11 +8,11 @@ use native.Mathlib.Numerals.{add-one}
 use lib.Dec.{eqb, ltb}
 use borrow.Author.Tests.{eq-eqb, ne-eqb, eqb-true, eqb-false, ltb-true, ltb-false}
 use lib.ListN.{length, getD, take, set, replicate, length-append, length-set, length-replicate, getD-replicate}
-use lib.Seq.{take-at, length-take-le, getD-set-same, getD-set-other}
+use lib.Seq.{take-at, getD-set-same, getD-set-other}
 use Rattle.lists.proofs.Tests.{by-test, no-both}
 use Rattle.patterns.specs.Table.{image, isTable, onCycle, hangsAt}
 use Rattle.cycles.specs.Marks.{Marked}
-use Rattle.cycles.specs.Links.{lastBelow, LinksAsked, Links}
+use Rattle.cycles.specs.Links.{lastBelow, Links}
 use Rattle.cycles.proofs.Marks.{inside, marks-off, marks-on}
 
 module _ (f : List ℕ) (x : ℕ) where

@@ -18,7 +18,7 @@ use Rattle.patterns.specs.Entry.{gives, Replied, checkedTable, codeOfMap, mapOf
 use Rattle.memory.specs.Memory.{Holds}
 use Rattle.memory.specs.Memory.{HeldSystem}
 use Rattle.systems.specs.Held.{Wrote}
-use Rattle.memory.proofs.Parts.{length-numbers, held-points, length-held}
+use Rattle.memory.proofs.Parts.{length-numbers, held-points, length-trees}
 use Rattle.mapping.specs.Images.{HeldMap}
 use Rattle.cycles.specs.Marks.{MarksAsked, Marked}
 use Rattle.coding.specs.Systems.{SystemAsked, SystemWritten}
@@ -65,7 +65,7 @@ module _ {f : List ℕ} (t : Table f) where
 
   module _ {m : ℕ} {sizes numbers labelled : List ℕ} (w : SystemWritten f m sizes numbers labelled) (rest more : List ℕ) where
     numbers-length : length numbers ≡ length f
-    numbers-length = ap length (w .numbers-are) ∙ length-held (systemOfTable f) ∙ table-weight (length f) f refl (t .table)
+    numbers-length = ap length (w .numbers-are) ∙ length-trees (systemOfTable f) ∙ table-weight (length f) f refl (t .table)
 
     pub sizes-within : m ≤ length (sizes ++ rest)
     sizes-within = omega (arith, length-append sizes rest, w .within)

@@ -11,9 +11,9 @@ use borrow.Author.Tests.{leb-true, leb-false, eqb-true, eqb-false}
 use lib.ListN.{length, length-map}
 use Rattle.lists.specs.Order.{same}
 use Rattle.lists.specs.Select.{keep, gather, total, range, times, once}
-use Rattle.lists.proofs.Tests.{_∈_, by-test, either, no-both}
+use Rattle.lists.proofs.Tests.{_∈_, by-test, either}
 use Rattle.lists.proofs.Permute.{perm-length, total-one, total-zero, total-add, total-same, total-mono, total-keep, total-map, total-gather}
-use Rattle.lists.proofs.Members.{NoDup, compare-decides, in-head, in-tail, in-cons-cases, not-in-nil, in-map, of-map, in-keep, of-keep, in-range, of-range, in-once, of-once, nodup-keep, nodup-range, nodup-once}
+use Rattle.lists.proofs.Members.{NoDup, compare-decides, in-head, in-tail, in-cons-cases, not-in-nil, in-map, of-map, of-keep, in-range, of-range, in-once, of-once, nodup-keep, nodup-range, nodup-once}
 use Rattle.lists.proofs.Places.{times-out, times-in, in-of-times, times-nodup, nodup-times}
 use Rattle.lists.proofs.Pigeon.{inside-rest, same-members-perm, nodup-below-length}
 use Rattle.patterns.specs.Table.{onCycle, cycleFrom, leaders}
@@ -99,14 +99,6 @@ module _ (n : ℕ) (f : ℕ → ℕ) where
   occurs-not l e m = let h = times-in m in omega arith
 
   module _ (inside : (x : ℕ) → x < n → f x < n) where
-    -- a point stands once in the counted cycles if it is on a cycle, and otherwise not at all
-    pub cycle-points-once : (z : ℕ) → z < n → times z (gather (cycleFrom n f) (leaders n f)) ≡ cond (onCycle n f z) 1 0
-    cycle-points-once z h =
-        (cycles-perm n f inside) .totals (λ y. cond (same compare z y) 1 0)
-        ∙ by-test (onCycle n f z)
-        (λ t. times-nodup (nodup-keep (onCycle n f) (nodup-range 0 n)) (in-keep (onCycle n f) (in-range 0 n (omega arith) (omega arith)) t) ∙ rw t)
-        (λ t. times-out z (keep (onCycle n f) (range 0 n)) (λ m. no-both ((of-keep (onCycle n f) (range 0 n) m) .1) t) ∙ rw t)
-
     -- every point on a cycle belongs to exactly one counted cycle, in which it stands once
     pub every-cycle-once : (z : ℕ) → z < n → onCycle n f z ≡ true
         → (x : ℕ) × (x ∈ leaders n f) × (times z (cycleFrom n f x) ≡ 1) × ((y : ℕ) → y ∈ leaders n f → z ∈ cycleFrom n f y → y ≡ x)
@@ -228,12 +220,3 @@ module _ (n : ℕ) (f : ℕ → ℕ) where
           counted = row-counts ls;
         },
       )
-
--- no point, no height, no cycle
-pub empty-height : (f : ℕ → ℕ) → height 0 f ≡ 0
-unfolding height
-empty-height f = refl
-
-pub empty-longest : (f : ℕ → ℕ) → longestCycle 0 f ≡ 0
-unfolding longestCycle cycleLengths leaders
-empty-longest f = refl

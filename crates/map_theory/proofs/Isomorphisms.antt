@@ -9,7 +9,7 @@ use borrow.Author.Tests.{ltb-true}
 use lib.ListN.{length, length-map}
 use Rattle.lists.specs.Select.{range, place}
 use Rattle.lists.proofs.Tests.{each-member}
-use Rattle.lists.proofs.Permute.{Perm, perm-refl, perm-sym, perm-trans, perm-path, perm-map}
+use Rattle.lists.proofs.Permute.{Perm, perm-sym, perm-trans, perm-path, perm-map}
 use Rattle.lists.proofs.Members.{NoDup, compare-decides, of-range, nodup-range}
 use Rattle.lists.proofs.Places.{in-index, index-of, range-length, getD-range, place-index, place-at}
 use Rattle.patterns.specs.Table.{image, isTable}
@@ -32,16 +32,6 @@ isomorphism-perm {n} {f} {g} {r} i = once-perm n r (i .points) (i .once)
 
 pub isomorphism-below : {n : ℕ} {f g r : List ℕ} → Isomorphism n f g r → (x : ℕ) → x < n → image r x < n
 isomorphism-below {n} {f} {g} {r} i x h = below-of (isomorphism-perm i) (in-index r x 0 (omega (arith, i .points)))
-
--- every map is isomorphic to itself
-pub isomorphism-self : (n : ℕ) (f : List ℕ) → ((x : ℕ) → x < n → image f x < n) → Isomorphism n f f (range 0 n)
-isomorphism-self n f b =
-    let same : (x : ℕ) → x < n → image (range 0 n) x ≡ x = λ x h. getD-range 0 n x 0 h ∙ omega arith in
-    record {
-      points = range-length 0 n;
-      once = perm-once n (range 0 n) perm-refl;
-      follows = λ x h. same (image f x) (b x h) ∙ ap (image f) (sym (same x h));
-    }
 
 -- first r, then s
 pub isomorphism-compose : {n : ℕ} {f g h r s : List ℕ} → ((x : ℕ) → x < n → image f x < n) → Isomorphism n f g r → Isomorphism n g h s

@@ -94,9 +94,6 @@ module _ (n : ℕ) (f : ℕ → ℕ) where
       let r = onCycle-period x e in
       period-onCycle (r .0) (iterate f k x) (r .1) (period-moves f (suc (r .0)) k (r .2))
 
-  pub onCycle-next : (x : ℕ) → onCycle n f x ≡ true → onCycle n f (f x) ≡ true
-  onCycle-next x e = onCycle-moves 1 x e
-
   -- from every point after a point on a cycle the way leads back
   pub onCycle-back : (k x : ℕ) → onCycle n f x ≡ true → (j : ℕ) × (iterate f j (iterate f k x) ≡ x)
   onCycle-back k x e = let r = onCycle-period x e in come-back f (r .0) k (r .2)
@@ -123,10 +120,3 @@ module _ (n : ℕ) (f : ℕ → ℕ) where
     every-point-reaches-cycle x h =
         let r = repeats x h in
         (r .0, omega arith, period-onCycle (r .1) (iterate f (r .0) x) (omega arith) (r .3))
-
-    -- a point that comes back after any number of steps is on a cycle
-    pub comes-back-onCycle : (p x : ℕ) → x < n → iterate f (suc p) x ≡ x → onCycle n f x ≡ true
-    comes-back-onCycle p x h e =
-        let r = every-point-reaches-cycle x h in
-        let s = come-back f p (r .0) e in
-        rw (s .1) at (onCycle-moves (s .0) (iterate f (r .0) x) (r .2))

@@ -41,10 +41,10 @@ renamed-system n f g r pic l p e i =
     ∙ system-shown n (image g) (map (map (renamed (image r))) pic) (renamed-picture (image r) n (image f) (image g) pic p all (i .follows)) (ap canonical q ∙ e)
     ∙ q
 
--- a canonical system, with an isomorphism from its map to f, is the system of f
-pub system-by-renaming : (n : ℕ) (S : System) (f r : List ℕ) → canonical S ≡ true → weight S ≡ n → length f ≡ n
+-- the one canonical system whose map is isomorphic to f is the system of f
+pub canonical-system-unique : (n : ℕ) (S : System) (f r : List ℕ) → canonical S ≡ true → weight S ≡ n → length f ≡ n
     → Isomorphism n (mapOf S) f r → systemOfTable f ≡ S
-system-by-renaming n S f r e w l i =
+canonical-system-unique n S f r e w l i =
     let q = numberedSystem-shapes 0 S in
     renamed-system n (mapOf S) f r (numberedSystem 0 S) l (rw w at (mapOf-picture S)) (ap canonical q ∙ e) i ∙ q
 
@@ -89,26 +89,26 @@ module _ (n : ℕ) (f : List ℕ) (l : length f ≡ n) (t : isTable f ≡ true) 
   table-weight = ap weight system-at ∙ system-weight n (image f) below-n
 
   -- a table is isomorphic to the map of its system
-  pub system-renaming : (r : List ℕ) × Isomorphism n (mapOf (systemOfTable f)) f r
-  system-renaming =
+  pub isomorphic-to-map-of-system : (r : List ℕ) × Isomorphism n (mapOf (systemOfTable f)) f r
+  isomorphic-to-map-of-system =
       let p = every-point-once n (image f) below-n in
       let e : shapes (p .0) ≡ systemOfTable f = p .2 ∙ sym system-at in
       (allLabels (p .0), rw e at (picture-isomorphism n f (p .0) (p .1)))
 
 -- isomorphic tables have the same system
-pub renaming-system : (n : ℕ) (f g r : List ℕ) → length f ≡ n → isTable f ≡ true → length g ≡ n → Isomorphism n f g r → systemOfTable f ≡ systemOfTable g
-renaming-system n f g r l t k i =
+pub isomorphic-same-system : (n : ℕ) (f g r : List ℕ) → length f ≡ n → isTable f ≡ true → length g ≡ n → Isomorphism n f g r → systemOfTable f ≡ systemOfTable g
+isomorphic-same-system n f g r l t k i =
     let p = every-point-once n (image f) (below-n n f l t) in
     let e : shapes (p .0) ≡ systemOfTable f = p .2 ∙ sym (system-at n f l t) in
     sym e ∙ sym (renamed-system n f g r (p .0) k (p .1) (ap canonical e ∙ table-canonical n f l t) i)
 
 -- tables with the same system are isomorphic
-pub system-same-isomorphic : (n : ℕ) (f g : List ℕ) → length f ≡ n → isTable f ≡ true → length g ≡ n → isTable g ≡ true
+pub same-system-isomorphic : (n : ℕ) (f g : List ℕ) → length f ≡ n → isTable f ≡ true → length g ≡ n → isTable g ≡ true
     → systemOfTable f ≡ systemOfTable g → (r : List ℕ) × Isomorphism n f g r
-system-same-isomorphic n f g l t k u e =
+same-system-isomorphic n f g l t k u e =
     let S = systemOfTable f in
-    let a = system-renaming n f l t in
-    let b = system-renaming n g k u in
+    let a = isomorphic-to-map-of-system n f l t in
+    let b = isomorphic-to-map-of-system n g k u in
     let m : length (mapOf S) ≡ n = length-mapOf S ∙ table-weight n f l t in
     let back : Isomorphism n f (mapOf S) (inverse n (a .0)) =
     isomorphism-inverse (table-below n (mapOf S) m (mapOf-table S)) (below-n n f l t) (a .1) in
@@ -119,4 +119,4 @@ system-same-isomorphic n f g l t k u e =
 pub same-system-iff : (n : ℕ) (f g : List ℕ) → length f ≡ n → isTable f ≡ true → length g ≡ n → isTable g ≡ true
     → (systemOfTable f ≡ systemOfTable g → (r : List ℕ) × Isomorphism n f g r)
     × ((r : List ℕ) → Isomorphism n f g r → systemOfTable f ≡ systemOfTable g)
-same-system-iff n f g l t k u = (system-same-isomorphic n f g l t k u, λ r i. renaming-system n f g r l t k i)
+same-system-iff n f g l t k u = (same-system-isomorphic n f g l t k u, λ r i. isomorphic-same-system n f g r l t k i)

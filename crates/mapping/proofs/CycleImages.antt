@@ -75,7 +75,7 @@ module _ {c : Component} {start end p : ℕ} {out₀ out : List ℕ} (r : Roundi
   whole = r .split ∙ ap (λ l. r .had ++ l) ((some-tree c start p end (r .had) (r .rest) (r .split) (r .place) g h) .2)
 
   -- it stands at p
-  pub tree-stands : {numbers : List ℕ} → Stands (flat c) start numbers → Stands (code nextTree) p numbers
+  pub tree-stands : {trees : List ℕ} → Stands (flat c) start trees → Stands (code nextTree) p trees
   tree-stands s =
       stands-at (omega (arith, r .place, length-flat (r .had)))
       (stands-left (flat laterTrees) (stands-right (flat (r .had)) (stands-path (ap flat whole ∙ flat-append (r .had) (nextTree ∷ laterTrees)) s)))
@@ -116,30 +116,30 @@ rounding-end {c} {start} {end} {p} {out₀} {out} r g h =
     none [] s = append-nil (r .done)
     none (t ∷ ts) s = absurd (omega (arith, r .place, size-positive t, ap points s, points-append (r .had) (t ∷ ts)))
 
-module _ {numbers out₀ out : List ℕ} {start end p : ℕ} (a : ComponentStands numbers start end out₀) (same : length out ≡ length out₀)
-    (inv : (c : Component) → Stands (flat c) start numbers → end ≡ start + points c → Rounding c start end p out₀ out) (h : p < end) where
+module _ {trees out₀ out : List ℕ} {start end p : ℕ} (a : ComponentStands trees start end out₀) (same : length out ≡ length out₀)
+    (inv : (c : Component) → Stands (flat c) start trees → end ≡ start + points c → Rounding c start end p out₀ out) (h : p < end) where
   -- the tree at p may be asked for
-  pub asked-tree : (x : ℕ) → TreeStands numbers p (set out p x)
+  pub asked-tree : (x : ℕ) → TreeStands trees p (set out p x)
   asked-tree x =
-      let r = inv (a .trees) (a .stands) (a .ends) in
+      let r = inv (a .component) (a .stands) (a .ends) in
       record {
         tree = nextTree r (a .ends) h;
         stands = tree-stands r (a .ends) h (a .stands);
         room = record { same = length-set out p x ∙ same ∙ a .room .same; small = a .room .small };
       }
 
-  pub component-bounds : Bounds numbers p
+  pub component-bounds : Bounds trees p
   component-bounds = let b = asked-tree 0 in tree-bounds (b .tree) (b .room .small) (b .stands)
 
   pub component-fits : end ≤ length out₀
-  component-fits = omega (arith, stands-fits (a .stands), length-flat (a .trees), a .ends, a .room .same)
+  component-fits = omega (arith, stands-fits (a .stands), length-flat (a .component), a .ends, a .room .same)
 
   -- after the tree at p the next one follows
-  pub trees-next : (x : ℕ) (out′ : List ℕ) → x ≡ rootImage start end (p + getD numbers p 0)
-      → ((u : Tree) → Stands (code u) p numbers → out′ ≡ placed (p + 1) (innerImages p u) (set out p x))
-      → (c : Component) → Stands (flat c) start numbers → end ≡ start + points c → Rounding c start end (p + getD numbers p 0) out₀ out′
+  pub trees-next : (x : ℕ) (out′ : List ℕ) → x ≡ rootImage start end (p + getD trees p 0)
+      → ((u : Tree) → Stands (code u) p trees → out′ ≡ placed (p + 1) (innerImages p u) (set out p x))
+      → (c : Component) → Stands (flat c) start trees → end ≡ start + points c → Rounding c start end (p + getD trees p 0) out₀ out′
   trees-next x out′ e wrote c s g =
       let r = inv c s g in
       let b = tree-stands r g h s in
-      rounding-next r g h (p + getD numbers p 0) out′ component-fits (ap (λ m. p + m) (stands-head b))
+      rounding-next r g h (p + getD trees p 0) out′ component-fits (ap (λ m. p + m) (stands-head b))
       (wrote (nextTree r g h) b ∙ ap (λ y. placed (p + 1) (innerImages p (nextTree r g h)) (set out p y)) e)

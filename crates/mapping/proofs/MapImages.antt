@@ -1,20 +1,20 @@
 -- Writing the map of a system, component by component.
 use mathlib.Core.Path.{_≡_, refl, ap, sym, _∙_}
-use mathlib.Core.List.{List, [], _++_, map, append-assoc, append-nil}
+use mathlib.Core.List.{List, [], _++_, append-assoc, append-nil}
 use Prim.Native.Nat.{ℕ, _+_, _≤_, _<_}
 use native.Mathlib.Omega.{arith}
-use lib.ListN.{length, getD, length-append, length-map, drop-of-length-le}
-use Rattle.lists.specs.Select.{gather}
+use lib.ListN.{length, getD, length-append, drop-of-length-le}
 use Rattle.patterns.specs.Component.{Component, points, flat}
 use Rattle.patterns.specs.System.{System, weight}
 use Rattle.patterns.specs.MapOf.{cycleImages, imagesFrom, mapOf}
 use Rattle.written.specs.Putting.{placed}
 use Rattle.written.proofs.Placing.{placed-none}
-use Rattle.memory.specs.Memory.{Stands}
-use Rattle.mapping.specs.Images.{ComponentStands, HeldMap}
+use Rattle.memory.specs.Memory.{Holds, Stands}
+use Rattle.mapping.specs.Images.{ComponentStands, MapAsked}
 use Rattle.map_theory.proofs.MapOf.{length-cycleImages, length-imagesFrom}
 use Rattle.mapping.proofs.Imaging.{placed-join}
-use Rattle.memory.proofs.SystemWalks.{length-gather-flat, AlongSystem, NextComponent, system-start, system-next, system-end, system-step, component-stands, component-size, component-ends}
+use Rattle.memory.proofs.Parts.{held-count, held-points}
+use Rattle.memory.proofs.SystemWalks.{AlongSystem, NextComponent, system-start, system-next, system-end, system-step, component-stands, component-size, component-ends}
 
 -- the components before the place start have their images
 pub record Mapping (S : System) (i start : ℕ) (out₀ out : List ℕ) : Type 0 where
@@ -57,42 +57,42 @@ mapping-end {S} {i} {start} {out₀} {out} m h e =
     ∙ ap (λ r. mapOf S ++ r) (drop-of-length-le out₀ {i = 0 + length (imagesFrom 0 S)} (omega (arith, length-imagesFrom 0 S)))
     ∙ append-nil (mapOf S)
 
-module _ {sizes numbers out₀ out : List ℕ} {i start : ℕ} (a : HeldMap sizes numbers out₀) (same : length out ≡ length out₀)
-    (inv : (S : System) → sizes ≡ map points S → numbers ≡ gather flat S → Mapping S i start out₀ out) (h : i < length sizes) where
-  next : (S : System) (e : sizes ≡ map points S) (g : numbers ≡ gather flat S) → NextComponent ((inv S e g) .along)
-  next S e g = system-next ((inv S e g) .along) (omega (arith, ap length e, length-map S points))
+module _ {sizes trees out₀ out : List ℕ} {i start : ℕ} (a : MapAsked sizes trees out₀) (same : length out ≡ length out₀)
+    (inv : (S : System) → Holds S sizes trees → Mapping S i start out₀ out) (h : i < length sizes) where
+  next : (S : System) (k : Holds S sizes trees) → NextComponent ((inv S k) .along)
+  next S k = system-next ((inv S k) .along) (omega (arith, held-count k))
 
   -- the component at start may be asked for
-  pub asked-component : ComponentStands numbers start (start + getD sizes i 0) out
+  pub asked-component : ComponentStands trees start (start + getD sizes i 0) out
   asked-component =
-      let w = (inv (a .system) (a .sizes-are) (a .numbers-are)) .along in
-      let n = next (a .system) (a .sizes-are) (a .numbers-are) in
+      let k = a .held .holds in
+      let w = (inv (a .held .system) k) .along in
+      let n = next (a .held .system) k in
       record {
-        trees = n .component;
-        stands = component-stands w n (a .numbers-are);
-        ends = ap (λ k. start + k) (component-size w n (a .sizes-are));
-        room = record { same = same ∙ a .room .same; small = a .room .small };
+        component = n .component;
+        stands = component-stands w n (k .flat-is);
+        ends = ap (λ s. start + s) (component-size w n (k .points-are));
+        room = record { same = same ∙ a .room; small = omega (arith, held-points k, a .held .small) };
       }
 
-  pub asked-end : start + getD sizes i 0 ≤ length numbers
+  pub asked-end : start + getD sizes i 0 ≤ 200
   asked-end =
-      let w = (inv (a .system) (a .sizes-are) (a .numbers-are)) .along in
-      let n = next (a .system) (a .sizes-are) (a .numbers-are) in
-      omega (arith, component-size w n (a .sizes-are), component-ends w n, ap length (a .numbers-are), length-gather-flat (a .system))
+      let k = a .held .holds in
+      let w = (inv (a .held .system) k) .along in
+      let n = next (a .held .system) k in
+      omega (arith, component-size w n (k .points-are), component-ends w n, a .held .small)
 
   -- after the component at start the next one follows
   pub components-next : (out′ : List ℕ)
-      → ((c : Component) → Stands (flat c) start numbers → start + getD sizes i 0 ≡ start + points c → out′ ≡ placed start (cycleImages start start c) out)
-      → (S : System) → sizes ≡ map points S → numbers ≡ gather flat S → Mapping S (i + 1) (start + getD sizes i 0) out₀ out′
-  components-next out′ wrote S e g =
-      let m = inv S e g in
-      let n = next S e g in
-      let q : start + getD sizes i 0 ≡ start + points (n .component) = ap (λ k. start + k) (component-size (m .along) n e) in
-      mapping-next m n (start + getD sizes i 0) out′ (omega (arith, ap length g, length-gather-flat S, a .room .same)) q
-      (wrote (n .component) (component-stands (m .along) n g) q)
+      → ((c : Component) → Stands (flat c) start trees → start + getD sizes i 0 ≡ start + points c → out′ ≡ placed start (cycleImages start start c) out)
+      → (S : System) → Holds S sizes trees → Mapping S (i + 1) (start + getD sizes i 0) out₀ out′
+  components-next out′ wrote S k =
+      let m = inv S k in
+      let n = next S k in
+      let q : start + getD sizes i 0 ≡ start + points (n .component) = ap (λ s. start + s) (component-size (m .along) n (k .points-are)) in
+      mapping-next m n (start + getD sizes i 0) out′ (omega (arith, held-points k, a .room)) q
+      (wrote (n .component) (component-stands (m .along) n (k .flat-is)) q)
 
-pub map-written : {sizes numbers out₀ out : List ℕ} {i start : ℕ} → HeldMap sizes numbers out₀
-    → ((S : System) → sizes ≡ map points S → numbers ≡ gather flat S → Mapping S i start out₀ out) → length sizes ≤ i
-    → (S : System) → sizes ≡ map points S → numbers ≡ gather flat S → out ≡ mapOf S
-map-written a inv h S e g =
-    mapping-end (inv S e g) (omega (arith, ap length e, length-map S points)) (omega (arith, ap length g, length-gather-flat S, a .room .same))
+pub map-written : {sizes trees out₀ out : List ℕ} {i start : ℕ} → MapAsked sizes trees out₀
+    → ((S : System) → Holds S sizes trees → Mapping S i start out₀ out) → length sizes ≤ i → (S : System) → Holds S sizes trees → out ≡ mapOf S
+map-written a inv h S k = mapping-end (inv S k) (omega (arith, held-count k)) (omega (arith, held-points k, a .room))

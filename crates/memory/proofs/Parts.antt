@@ -15,9 +15,9 @@ use Rattle.patterns.proofs.Trees.{length-flat, flat-injective}
 use Rattle.memory.specs.Memory.{Holds}
 
 -- as many bytes as points
-pub length-held : (S : System) → length (gather flat S) ≡ weight S
-length-held [] = refl
-length-held (c ∷ S) = omega (arith, length-append (flat c) (gather flat S), length-flat c, length-held S)
+pub length-trees : (S : System) → length (gather flat S) ≡ weight S
+length-trees [] = refl
+length-trees (c ∷ S) = omega (arith, length-append (flat c) (gather flat S), length-flat c, length-trees S)
 
 -- component i is the next after the first i
 pub take-next : {B : Type 0} (f : Component → List B) (S : System) (i : ℕ) → i < length S → gather f (take (i + 1) S) ≡ gather f (take i S) ++ f (getD S i [])
@@ -36,12 +36,12 @@ weight-cut S i = ap weight (sym (take-append-drop i S)) ∙ total-append points 
 pub front-trees : (S : System) (i : ℕ) → take (weight (take i S)) (gather flat S) ≡ gather flat (take i S)
 front-trees S i =
     ap (take (weight (take i S))) (trees-cut S i)
-    ∙ take-at (gather flat (take i S)) (gather flat (drop i S)) (weight (take i S)) (length-held (take i S))
+    ∙ take-at (gather flat (take i S)) (gather flat (drop i S)) (weight (take i S)) (length-trees (take i S))
 
 pub rest-trees : (S : System) (i : ℕ) → drop (weight (take i S)) (gather flat S) ≡ gather flat (drop i S)
 rest-trees S i =
     ap (drop (weight (take i S))) (trees-cut S i)
-    ∙ drop-at (gather flat (take i S)) (gather flat (drop i S)) (weight (take i S)) (length-held (take i S))
+    ∙ drop-at (gather flat (take i S)) (gather flat (drop i S)) (weight (take i S)) (length-trees (take i S))
 
 -- the trees of component i
 pub part-flat : (S : System) (i k : ℕ) → i < length S → k ≡ points (getD S i []) → take k (drop (weight (take i S)) (gather flat S)) ≡ flat (getD S i [])
@@ -58,7 +58,7 @@ module _ {S : System} {sizes trees : List ℕ} (h : Holds S sizes trees) where
   held-count = ap length (h .points-are) ∙ length-map S points
 
   pub held-points : length trees ≡ weight S
-  held-points = ap length (h .flat-is) ∙ length-held S
+  held-points = ap length (h .flat-is) ∙ length-trees S
 
   pub held-size : (i : ℕ) → getD sizes i 0 ≡ points (getD S i [])
   held-size i = ap (λ l. getD l i 0) (h .points-are) ∙ List·getD-map points S i []

@@ -12,11 +12,8 @@ use Rattle.patterns.specs.Component.{Component, points, flat}
 use Rattle.patterns.specs.System.{System, weight}
 use Rattle.patterns.proofs.Trees.{length-flat}
 use Rattle.memory.specs.Memory.{Stands}
+use Rattle.memory.proofs.Parts.{length-trees}
 use Rattle.memory.proofs.Standing.{stands-left, stands-right, stands-path, stands-at, stands-self, stands-part}
-
-pub length-gather-flat : (S : System) → length (gather flat S) ≡ weight S
-length-gather-flat [] = refl
-length-gather-flat (c ∷ S) = omega (arith, length-append (flat c) (gather flat S), length-flat c, length-gather-flat S)
 
 -- the first i components, up to the place start, and the others
 pub record AlongSystem (S : System) (i start : ℕ) : Type 0 where
@@ -62,7 +59,7 @@ module _ {S : System} {i start : ℕ} (w : AlongSystem S i start) where
     -- it stands at the place, and its size is known
     pub component-stands : {numbers : List ℕ} → numbers ≡ gather flat S → Stands (flat (n .component)) start numbers
     component-stands {numbers} e =
-        stands-at (omega (arith, w .place, length-gather-flat (w .had)))
+        stands-at (omega (arith, w .place, length-trees (w .had)))
         (stands-left (gather flat (n .later)) (stands-right (gather flat (w .had))
         (stands-path (e ∙ ap (gather flat) whole ∙ gather-append flat (w .had) (n .component ∷ n .later)) (stands-self numbers))))
 

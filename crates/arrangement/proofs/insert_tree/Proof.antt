@@ -1,4 +1,4 @@
-use Rattle.arrangement.proofs.Inserting.{planted-row, planted-inserted}
+use Rattle.arrangement.proofs.Inserting.{planted-siblings, planted-inserted}
 use Prim.Native.Nat.{_+_}
 use Rattle.patterns.proofs.Trees.{length-flat}
 use Rattle.memory.proofs.Standing.{stands-part, part-length}
@@ -30,20 +30,20 @@ part-points-before-end-2 c = search needs
 points-before-requires : tie.Need-points-before-requires
 points-before-requires c κs =
     let a = c .before .before .before .before .before .pre in
-    record { trees = a .trees; is = stands-part (c .before .before .before .before .before .args .end) (omega (arith, length-flat (a .trees), a .ends)) (a .stands) }
+    record { trees = a .siblings; is = stands-part (c .before .before .before .before .before .args .end) (omega (arith, length-flat (a .siblings), a .ends)) (a .stands) }
 
 add-p : tie.Need-add-p
 add-p c =
     let s = c .before .before .before .before .before .before in
     let a = s .args in
-    omega (arith, c .points-before .ensures .0, part-length (now (a .numbers)) (a .start) (a .end) (omega (arith, s .pre .after, s .pre .fits)), s .pre .ends, s .pre .after, s .pre .fits)
+    omega (arith, c .points-before .ensures .0, part-length (now (a .trees)) (a .start) (a .end) (omega (arith, s .pre .after, s .pre .fits)), s .pre .ends, s .pre .after, s .pre .fits)
 
 exchange-requires : tie.Need-exchange-requires
 exchange-requires c κs =
     let s = c .before .before .before .before .before .before .before in
     let a = s .args in
     let r = c .before .points-before in
-    let n = part-length (now (a .numbers)) (a .start) (a .end) (omega (arith, s .pre .after, s .pre .fits)) in
+    let n = part-length (now (a .trees)) (a .start) (a .end) (omega (arith, s .pre .after, s .pre .fits)) in
     (omega (arith, r .ensures .0, s .pre .ends), s .pre .after, s .pre .fits)
 
 exchange-requires-2 : tie.Need-exchange-requires-2
@@ -51,7 +51,7 @@ exchange-requires-2 c κs =
     let s = c .before .before .before .before .before .before .before .before .before .before .before in
     let a = s .args in
     let r = c .before .before .before .before .before .points-before in
-    let n = part-length (now (a .numbers)) (a .start) (a .end) (omega (arith, s .pre .after, s .pre .fits)) in
+    let n = part-length (now (a .trees)) (a .start) (a .end) (omega (arith, s .pre .after, s .pre .fits)) in
     (omega (arith, r .ensures .0, s .pre .ends), s .pre .after, omega (arith, s .pre .fits, s .pre .same))
 
 same-length : tie.Need-same-length
@@ -67,7 +67,7 @@ returns c =
     let r = c .before .before .before .before .before .before .before .before .points-before in
     record {
       inserts = λ us v d e h k m p.
-          let q = planted-row us v h m p in
+          let q = planted-siblings us v h m p in
           rw (c .before .before .before .before .before .before .exchange .ensures, c .before .before .exchange2 .ensures)
           (planted-inserted us v h k (ap (λ n. a .start + n) (r .ensures .1 _ _ (q .1) (q .0))) m p);
     }

@@ -18,8 +18,8 @@ Inv-loop s best₀ p₀ best p = Along s p (Best best)
 abbrev μ-loop : tie.MeasureT-loop
 μ-loop s best₀ p₀ best p = length s - p
 
-has-has-least-rotation-requires : tie.Need-has-has-least-rotation-requires Inv-loop μ-loop
-has-has-least-rotation-requires c κs = search needs
+has-least-rotation-requires : tie.Need-has-least-rotation-requires Inv-loop μ-loop
+has-least-rotation-requires c κs = search needs
 
 returns : tie.Need-returns Inv-loop μ-loop
 returns c =
@@ -69,7 +69,7 @@ least-start-spec =
     (tie.spec
     Inv-loop
     μ-loop
-    has-has-least-rotation-requires
+    has-least-rotation-requires
     returns
     loop-holds
     at-most-between-requires

@@ -13,10 +13,10 @@ use Rattle.arrangement.proofs.points_before.Statement.{statement}
 use Rattle.arrangement.proofs.points_before.Tie as tie
 
 abbrev Inv-loop : tie.InvT-loop
-Inv-loop tree row p₀ p = Along row p (Exceeds tree)
+Inv-loop tree siblings p₀ p = Along siblings p (Exceeds tree)
 
 abbrev μ-loop : tie.MeasureT-loop
-μ-loop tree row p₀ p = length row - p
+μ-loop tree siblings p₀ p = length siblings - p
 
 loop-holds : tie.Need-loop-holds Inv-loop μ-loop
 loop-holds c = along-start (c .before .before .pre) (Exceeds (now (c .before .before .args .tree))) (exceeds-start (now (c .before .before .args .tree)) (c .before .before .pre .trees))

@@ -3,7 +3,7 @@ use mathlib.Core.List.{List}
 use lib.ListN.{length-set}
 use Rattle.coding.specs.Writing.{TreeAsked}
 use Rattle.coding.proofs.Growing.{Growing, growing-start, growing-end}
-use Rattle.coding.proofs.Growing.{growing-bound, growing-numbers, growing-labels, growing-asked, growing-row, growing-take, growing-less}
+use Rattle.coding.proofs.Growing.{growing-bound, growing-trees, growing-labels, growing-asked, growing-siblings, growing-take, growing-less}
 use native.Mathlib.Omega.{arith}
 use borrow.Author.Needs.{needs}
 use Prim.Native.Nat.{ℕ, _<_, _+_, _-_}
@@ -28,11 +28,11 @@ tree-at-below t =
     and 4 tree-at-kinds.ps (falls 4 tree-at-kinds.ps _<_ μ-tree-at t) tree-at.Pre
 
 abbrev tree-at-Inv-loop : tree-at-lts.InvT-loop
-tree-at-Inv-loop last before x left numbers₀ points₀ at end₀ y₀ numbers points end y =
-    (f : List ℕ) → TreeAsked f last before x left numbers₀ points₀ at → Growing f x at numbers₀ points₀ y end numbers points
+tree-at-Inv-loop last before x left trees₀ labels₀ at end₀ y₀ trees labels end y =
+    (f : List ℕ) → TreeAsked f last before x left trees₀ labels₀ at → Growing f x at trees₀ labels₀ y end trees labels
 
 abbrev tree-at-μ-loop : tree-at-lts.MeasureT-loop
-tree-at-μ-loop last before x left numbers₀ points₀ at end₀ y₀ numbers points end y = y
+tree-at-μ-loop last before x left trees₀ labels₀ at end₀ y₀ trees labels end y = y
 
 tree-at-add-end : (t : ℕ) → tree-at-lts.Need-add-end (
   tree-at-below t,
@@ -126,7 +126,7 @@ tree-at-insert-tree-requires t c κs =
     let l = c .before .before .before .before .before .before .before .before .before .before .loop in
     let a = c .before .before .before .before .before .before .before .before .before .before .before .before .before .before .before .before .pre .1 .asked in
     let g = l .inv _ a in
-    growing-row a g (l .y - 1) (omega arith) (c .before .before .before .before .before .before .tree-at .ensures _ (growing-asked a g (l .y - 1) (omega arith)))
+    growing-siblings a g (l .y - 1) (omega arith) (c .before .before .before .before .before .before .tree-at .ensures _ (growing-asked a g (l .y - 1) (omega arith)))
 
 tree-at-shared-slice-read-y-2 : (t : ℕ) → tree-at-lts.Need-shared-slice-read-y-2 (
   tree-at-below t,
@@ -170,52 +170,52 @@ tree-at-loop-again t c =
     growing-take a g (l .y - 1) (omega arith) (c .before .before .before .before .before .before .before .before .before .before .before .before .tree-at .ensures f (growing-asked a g (l .y - 1) (omega arith)))
     (c .before .before .before .before .before .insert-tree .ensures)
 
-tree-at-sub-numbers : (t : ℕ) → tree-at-lts.Need-sub-numbers (
+tree-at-sub-trees : (t : ℕ) → tree-at-lts.Need-sub-trees (
   tree-at-below t,
   tree-at.Post,
   insert-tree-reads.Asked,
   insert-tree-reads.Learnt,
 ) (tree-at-at t) tree-at.Post tree-at-Inv-loop tree-at-μ-loop
-tree-at-sub-numbers t c =
+tree-at-sub-trees t c =
     let a = c .before .before .before .before .before .before .before .pre .1 .asked in
     omega (arith, growing-bound a (c .before .loop .inv _ a))
 
-tree-at-cast-numbers : (t : ℕ) → tree-at-lts.Need-cast-numbers (
+tree-at-cast-trees : (t : ℕ) → tree-at-lts.Need-cast-trees (
   tree-at-below t,
   tree-at.Post,
   insert-tree-reads.Asked,
   insert-tree-reads.Learnt,
 ) (tree-at-at t) tree-at.Post tree-at-Inv-loop tree-at-μ-loop
-tree-at-cast-numbers t c =
+tree-at-cast-trees t c =
     let a = c .before .before .before .before .before .before .before .pre .1 .asked in
     omega (arith, growing-bound a (c .before .loop .inv _ a), a .prepared .small)
 
-tree-at-slice-write-numbers : (t : ℕ) → tree-at-lts.Need-slice-write-numbers (
+tree-at-slice-write-trees : (t : ℕ) → tree-at-lts.Need-slice-write-trees (
   tree-at-below t,
   tree-at.Post,
   insert-tree-reads.Asked,
   insert-tree-reads.Learnt,
 ) (tree-at-at t) tree-at.Post tree-at-Inv-loop tree-at-μ-loop
-tree-at-slice-write-numbers t c =
+tree-at-slice-write-trees t c =
     let a = c .before .before .before .before .before .before .before .pre .1 .asked in
     let g = c .before .loop .inv _ a in
-    omega (arith, growing-bound a g, growing-numbers a g)
+    omega (arith, growing-bound a g, growing-trees a g)
 
-tree-at-cast-points : (t : ℕ) → tree-at-lts.Need-cast-points (
+tree-at-cast-labels : (t : ℕ) → tree-at-lts.Need-cast-labels (
   tree-at-below t,
   tree-at.Post,
   insert-tree-reads.Asked,
   insert-tree-reads.Learnt,
 ) (tree-at-at t) tree-at.Post tree-at-Inv-loop tree-at-μ-loop
-tree-at-cast-points t c = omega (arith, c .before .before .before .before .before .before .before .pre .1 .asked .here, c .before .before .before .before .before .before .before .pre .1 .asked .prepared .small)
+tree-at-cast-labels t c = omega (arith, c .before .before .before .before .before .before .before .pre .1 .asked .here, c .before .before .before .before .before .before .before .pre .1 .asked .prepared .small)
 
-tree-at-slice-write-points : (t : ℕ) → tree-at-lts.Need-slice-write-points (
+tree-at-slice-write-labels : (t : ℕ) → tree-at-lts.Need-slice-write-labels (
   tree-at-below t,
   tree-at.Post,
   insert-tree-reads.Asked,
   insert-tree-reads.Learnt,
 ) (tree-at-at t) tree-at.Post tree-at-Inv-loop tree-at-μ-loop
-tree-at-slice-write-points t c =
+tree-at-slice-write-labels t c =
     let a = c .before .before .before .before .before .before .before .pre .1 .asked in
     let g = c .before .loop .inv _ a in
     omega (arith, growing-bound a g, growing-labels a g)
@@ -230,7 +230,7 @@ tree-at-same-length t c =
     let s = c .before .before .before .before .before .before .before in
     let l = c .before .loop in
     let a = s .pre .1 .asked in
-    length-set (l .numbers) (s .args .at) (l .end - s .args .at) ∙ growing-numbers a (l .inv _ a) ∙ sym (a .prepared .numbers-room)
+    length-set (l .trees) (s .args .at) (l .end - s .args .at) ∙ growing-trees a (l .inv _ a) ∙ sym (a .prepared .trees-room)
 
 tree-at-same-length-2 : (t : ℕ) → tree-at-lts.Need-same-length-2 (
   tree-at-below t,
@@ -242,7 +242,7 @@ tree-at-same-length-2 t c =
     let s = c .before .before .before .before .before .before .before in
     let l = c .before .loop in
     let a = s .pre .1 .asked in
-    length-set (l .points) (s .args .at) (s .args .x) ∙ growing-labels a (l .inv _ a) ∙ sym (a .prepared .labels-room)
+    length-set (l .labels) (s .args .at) (s .args .x) ∙ growing-labels a (l .inv _ a) ∙ sym (a .prepared .labels-room)
 
 tree-at-returns : (t : ℕ) → tree-at-lts.Need-returns (
   tree-at-below t,
@@ -277,11 +277,11 @@ pub +tree-at-spec : {M : Type 1} → statement M
     (tree-at-cast-y-2 t)
     (tree-at-loop-less t)
     (tree-at-loop-again t)
-    (tree-at-sub-numbers t)
-    (tree-at-cast-numbers t)
-    (tree-at-slice-write-numbers t)
-    (tree-at-cast-points t)
-    (tree-at-slice-write-points t)
+    (tree-at-sub-trees t)
+    (tree-at-cast-trees t)
+    (tree-at-slice-write-trees t)
+    (tree-at-cast-labels t)
+    (tree-at-slice-write-labels t)
     (tree-at-same-length t)
     (tree-at-same-length-2 t)
     (tree-at-returns t)

@@ -1,7 +1,7 @@
 use denote.Ref.{now}
 use mathlib.Core.List.{map}
 use Rattle.map_theory.specs.Plants.{shape, plantsAlong}
-use Rattle.coding.proofs.TurnedLeast.{written-bound, written-part, turn-bound, turn-numbers, turn-labels, component-written}
+use Rattle.coding.proofs.TurnedLeast.{written-bound, written-part, turn-bound, turn-trees, turn-labels, component-written}
 use native.Mathlib.Omega.{arith}
 use borrow.Author.Needs.{needs}
 use Rattle.coding.proofs.component_at.Statement.{statement}
@@ -34,7 +34,7 @@ exchange-requires : tie.Need-exchange-requires
 exchange-requires c κs =
     let s = c .before .before .before .before .before .before .before .before .before .before .before .before .before .before .before .before in
     let w = c .before .before .before .before .before .before .before .before .trees-along .ensures in
-    turn-numbers (s .pre) w (c .before .least-start .ensures _ (written-part (s .pre) w))
+    turn-trees (s .pre) w (c .before .least-start .ensures _ (written-part (s .pre) w))
 
 exchange-requires-2 : tie.Need-exchange-requires-2
 exchange-requires-2 c κs =

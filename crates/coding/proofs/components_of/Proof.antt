@@ -2,22 +2,22 @@ use denote.Ref.{now}
 use mathlib.Core.Path.{sym, _∙_}
 use Rattle.cycles.proofs.Descending.{leader-yes, leader-no}
 use Prim.Native.Nat.{_-_}
-use Rattle.coding.proofs.Collecting.{Collecting, collecting-start, collecting-bound, collecting-numbers, collecting-labels, collecting-skip, collecting-asked, collecting-insert, collecting-take, collecting-end}
+use Rattle.coding.proofs.Collecting.{Collecting, collecting-start, collecting-bound, collecting-trees, collecting-labels, collecting-skip, collecting-asked, collecting-insert, collecting-take, collecting-end}
 use native.Mathlib.Omega.{arith}
 use borrow.Author.Needs.{needs}
 use Rattle.coding.proofs.components_of.Statement.{statement}
 use Rattle.coding.proofs.components_of.Tie as tie
 
 abbrev Inv-loop : tie.InvT-loop
-Inv-loop f leads last before sizes₀ numbers₀ points₀ m₀ end₀ x₀ sizes numbers points m end x = Collecting f numbers₀ points₀ x end m sizes numbers points
+Inv-loop f leads last before sizes₀ trees₀ labels₀ m₀ end₀ x₀ sizes trees labels m end x = Collecting f trees₀ labels₀ x end m sizes trees labels
 
 abbrev μ-loop : tie.MeasureT-loop
-μ-loop f leads last before sizes₀ numbers₀ points₀ m₀ end₀ x₀ sizes numbers points m end x = x
+μ-loop f leads last before sizes₀ trees₀ labels₀ m₀ end₀ x₀ sizes trees labels m end x = x
 
 loop-holds : tie.Need-loop-holds Inv-loop μ-loop
 loop-holds c =
     let a = c .before .before .before .before .before .before .before .args in
-    collecting-start (now (a .f)) (now (a .numbers)) (now (a .points)) (now (a .sizes)) (c .before .before .before .before .before .before .before .pre .asked .sizes-room)
+    collecting-start (now (a .f)) (now (a .trees)) (now (a .labels)) (now (a .sizes)) (c .before .before .before .before .before .before .before .pre .asked .sizes-room)
 
 sub-x : tie.Need-sub-x Inv-loop μ-loop
 sub-x c = search needs
@@ -63,7 +63,7 @@ same-length : tie.Need-same-length Inv-loop μ-loop
 same-length c = c .before .loop .inv .sizes-room ∙ sym (c .before .before .before .before .before .before .before .before .before .pre .asked .sizes-room)
 
 same-length-2 : tie.Need-same-length-2 Inv-loop μ-loop
-same-length-2 c = collecting-numbers (c .before .before .before .before .before .before .before .before .before .pre .asked) (c .before .loop .inv) ∙ sym (c .before .before .before .before .before .before .before .before .before .pre .asked .prepared .numbers-room)
+same-length-2 c = collecting-trees (c .before .before .before .before .before .before .before .before .before .pre .asked) (c .before .loop .inv) ∙ sym (c .before .before .before .before .before .before .before .before .before .pre .asked .prepared .trees-room)
 
 same-length-3 : tie.Need-same-length-3 Inv-loop μ-loop
 same-length-3 c = collecting-labels (c .before .before .before .before .before .before .before .before .before .pre .asked) (c .before .loop .inv) ∙ sym (c .before .before .before .before .before .before .before .before .before .pre .asked .prepared .labels-room)

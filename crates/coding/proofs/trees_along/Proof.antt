@@ -6,17 +6,17 @@ use Rattle.coding.specs.Writing.{CycleAsked}
 use mathlib.Core.Path.{sym, _∙_}
 use Prim.Native.Nat.{_-_, ℕ}
 use lib.ListN.{length}
-use Rattle.coding.proofs.Circling.{Circling, circling-first, circling-start, circling-bound, circling-numbers, circling-labels, circling-end, circling-asked, circling-less, circling-next}
+use Rattle.coding.proofs.Circling.{Circling, circling-first, circling-start, circling-bound, circling-trees, circling-labels, circling-end, circling-asked, circling-less, circling-next}
 use native.Mathlib.Omega.{arith}
 use Rattle.coding.proofs.trees_along.Statement.{statement}
 use Rattle.coding.proofs.trees_along.Tie as tie
 
 abbrev Inv-loop : tie.InvT-loop
-Inv-loop f last before x numbers₀ points₀ at n end₀ y₀ numbers points end y =
-    (d e : List ℕ) → CycleAsked f last before x d e at → Planted (plantAt f x ∷ []) at d e end₀ numbers₀ points₀ → Circling f x at d e y end numbers points
+Inv-loop f last before x trees₀ labels₀ at n end₀ y₀ trees labels end y =
+    (d e : List ℕ) → CycleAsked f last before x d e at → Planted (plantAt f x ∷ []) at d e end₀ trees₀ labels₀ → Circling f x at d e y end trees labels
 
 abbrev μ-loop : tie.MeasureT-loop
-μ-loop f last before x numbers₀ points₀ at n end₀ y₀ numbers points end y = length f - end
+μ-loop f last before x trees₀ labels₀ at n end₀ y₀ trees labels end y = length f - end
 
 sub-tree-at : tie.Need-sub-tree-at Inv-loop μ-loop
 sub-tree-at c = omega (arith, c .before .before .before .before .before .pre .room)
@@ -71,7 +71,7 @@ loop-again c =
 same-length : tie.Need-same-length Inv-loop μ-loop
 same-length c =
     let a = c .before .before .before .before .before .before .before .before .before .before .before .before .before .before .before .pre in
-    circling-numbers a (c .before .loop .inv _ _ a (c .before .before .before .before .before .before .before .tree-at .ensures _ (circling-first a))) ∙ sym (a .prepared .numbers-room)
+    circling-trees a (c .before .loop .inv _ _ a (c .before .before .before .before .before .before .before .tree-at .ensures _ (circling-first a))) ∙ sym (a .prepared .trees-room)
 
 same-length-2 : tie.Need-same-length-2 Inv-loop μ-loop
 same-length-2 c =

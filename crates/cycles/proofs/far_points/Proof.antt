@@ -4,7 +4,6 @@ use Prim.Native.Nat.{_-_}
 use native.Mathlib.Omega.{arith}
 use lib.ListN.{length, length-map}
 use Rattle.patterns.specs.Table.{image}
-use borrow.Author.Needs.{needs}
 use Rattle.lists.proofs.Filled.{copied}
 use Rattle.cycles.proofs.Marking.{Steps, steps-start, steps-inside, steps-double, steps-end}
 use Rattle.cycles.proofs.far_points.Statement.{statement}

@@ -1,7 +1,6 @@
 use denote.Ref.{now}
 use native.Mathlib.Omega.{arith}
 use lib.ListN.{length}
-use borrow.Author.Needs.{needs}
 use Rattle.patterns.specs.Table.{image}
 use Rattle.cycles.proofs.Marks.{inside}
 use Rattle.cycles.proofs.Descending.{Ahead, ahead-start, ahead-next, ahead-onCycle, ahead-less, ahead-inside, ahead-end}

@@ -27,10 +27,10 @@ tree-images-below t =
     and 2 tree-images-kinds.ps (falls 2 tree-images-kinds.ps _<_ μ-tree-images t) tree-images.Pre
 
 abbrev tree-images-Inv-loop : tree-images-lts.InvT-loop
-tree-images-Inv-loop numbers p out₀ end q₀ out q = (length out ≡ length out₀) × ((t : Tree) → Stands (code t) p numbers → Imaging t p q out₀ out)
+tree-images-Inv-loop trees p out₀ end q₀ out q = (length out ≡ length out₀) × ((t : Tree) → Stands (code t) p trees → Imaging t p q out₀ out)
 
 abbrev tree-images-μ-loop : tree-images-lts.MeasureT-loop
-tree-images-μ-loop numbers p out₀ end q₀ out q = end - q
+tree-images-μ-loop trees p out₀ end q₀ out q = end - q
 
 tree-images-shared-slice-read-end : (t : ℕ) → tree-images-lts.Need-shared-slice-read-end (
   tree-images-below t,

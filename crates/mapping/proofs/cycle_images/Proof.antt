@@ -11,10 +11,10 @@ use Rattle.mapping.proofs.cycle_images.Statement.{statement}
 use Rattle.mapping.proofs.cycle_images.Tie as tie
 
 abbrev Inv-loop : tie.InvT-loop
-Inv-loop numbers start end out₀ p₀ out p = (length out ≡ length out₀) × ((c : Component) → Stands (flat c) start numbers → end ≡ start + points c → Rounding c start end p out₀ out)
+Inv-loop trees start end out₀ p₀ out p = (length out ≡ length out₀) × ((c : Component) → Stands (flat c) start trees → end ≡ start + points c → Rounding c start end p out₀ out)
 
 abbrev μ-loop : tie.MeasureT-loop
-μ-loop numbers start end out₀ p₀ out p = end - p
+μ-loop trees start end out₀ p₀ out p = end - p
 
 loop-holds : tie.Need-loop-holds Inv-loop μ-loop
 loop-holds c = let a = c .before .before .args in (refl, λ d s g. rounding-start d (a .start) (a .end) (now (a .out)))
@@ -42,7 +42,7 @@ cast-out c =
     let s = c .before .before .before .before .before .before in
     let l = c .before .before .before .loop in
     let b = component-bounds (s .pre) (l .inv .0) (l .inv .1) (omega arith) in
-    let q = l .p + getD (now (s .args .numbers)) (l .p) 0 in
+    let q = l .p + getD (now (s .args .trees)) (l .p) 0 in
     omega (arith, c .root-image .ensures, rootImage-bound (s .args .start) (s .args .end) q 200 (omega (arith, component-fits (s .pre) (l .inv .0) (l .inv .1) (omega arith), s .pre .room .same, s .pre .ends)) (omega arith))
 
 slice-write-out : tie.Need-slice-write-out Inv-loop μ-loop

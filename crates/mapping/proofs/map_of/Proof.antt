@@ -1,11 +1,9 @@
 use denote.Ref.{now}
 use mathlib.Core.Path.{_≡_, refl, _∙_}
-use mathlib.Core.List.{map}
 use Prim.Native.Nat.{_-_}
 use lib.ListN.{length}
-use Rattle.lists.specs.Select.{gather}
-use Rattle.patterns.specs.Component.{points, flat}
 use Rattle.patterns.specs.System.{System}
+use Rattle.memory.specs.Memory.{Holds}
 use Rattle.mapping.proofs.MapImages.{Mapping, mapping-start, asked-component, asked-end, components-next, map-written}
 use native.Mathlib.Omega.{arith}
 use borrow.Author.Needs.{needs}
@@ -13,37 +11,28 @@ use Rattle.mapping.proofs.map_of.Statement.{statement}
 use Rattle.mapping.proofs.map_of.Tie as tie
 
 abbrev Inv-loop : tie.InvT-loop
-Inv-loop sizes numbers out₀ i₀ start₀ out i start = (length out ≡ length out₀) × ((S : System) → sizes ≡ map points S → numbers ≡ gather flat S → Mapping S i start out₀ out)
+Inv-loop sizes trees out₀ i₀ start₀ out i start = (length out ≡ length out₀) × ((S : System) → Holds S sizes trees → Mapping S i start out₀ out)
 
 abbrev μ-loop : tie.MeasureT-loop
-μ-loop sizes numbers out₀ i₀ start₀ out i start = length sizes - i
+μ-loop sizes trees out₀ i₀ start₀ out i start = length sizes - i
 
 loop-holds : tie.Need-loop-holds Inv-loop μ-loop
-loop-holds c = let a = c .before .before .before .args in (refl, λ S e g. mapping-start S (now (a .out)))
-
-shared-slice-read-end : tie.Need-shared-slice-read-end Inv-loop μ-loop
-shared-slice-read-end c = search needs
+loop-holds c = let a = c .before .before .before .args in (refl, λ S k. mapping-start S (now (a .out)))
 
 cast-end : tie.Need-cast-end Inv-loop μ-loop
 cast-end c =
     let l = c .before .before .loop in
-    omega (arith, asked-end (c .before .before .before .before .before .before .pre) (l .inv .0) (l .inv .1) (omega arith), c .before .before .before .before .before .before .pre .room .small)
+    omega (arith, asked-end (c .before .before .before .before .before .before .pre) (l .inv .0) (l .inv .1) (omega arith))
 
 add-end : tie.Need-add-end Inv-loop μ-loop
 add-end c =
     let l = c .before .before .loop in
-    omega (arith, asked-end (c .before .before .before .before .before .before .pre) (l .inv .0) (l .inv .1) (omega arith), c .before .before .before .before .before .before .pre .room .small)
+    omega (arith, asked-end (c .before .before .before .before .before .before .pre) (l .inv .0) (l .inv .1) (omega arith))
 
 cycle-images-requires : tie.Need-cycle-images-requires Inv-loop μ-loop
 cycle-images-requires c κs =
     let l = c .before .before .before .loop in
     asked-component (c .before .before .before .before .before .before .before .pre) (l .inv .0) (l .inv .1) (omega arith)
-
-add-i : tie.Need-add-i Inv-loop μ-loop
-add-i c = search needs
-
-loop-less : tie.Need-loop-less Inv-loop μ-loop
-loop-less c = search needs
 
 loop-again : tie.Need-loop-again Inv-loop μ-loop
 loop-again c =
@@ -67,12 +56,12 @@ map-of-spec =
     Inv-loop
     μ-loop
     loop-holds
-    shared-slice-read-end
+    (λ c. search needs)
     cast-end
     add-end
     cycle-images-requires
-    add-i
-    loop-less
+    (λ c. search needs)
+    (λ c. search needs)
     loop-again
     same-length
     returns)

@@ -1,0 +1,2 @@
+-- Laws of the check of a table.
+pub mod Tables

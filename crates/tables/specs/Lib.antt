@@ -1,0 +1,2 @@
+-- What a table that passes the checks is.
+pub mod Tables
