@@ -18,20 +18,21 @@ use Rattle.patterns.specs.Entry.{gives, Replied, checkedTable, codeOfMap, mapOf
 use Rattle.memory.specs.Memory.{Holds}
 use Rattle.memory.specs.Memory.{HeldSystem}
 use Rattle.systems.specs.Held.{Wrote}
-use Rattle.memory.proofs.Parts.{length-numbers, held-points, length-trees}
+use Rattle.memory.proofs.Parts.{length-numbers, held-points, length-trees, length-held}
 use Rattle.mapping.specs.Images.{HeldMap}
 use Rattle.cycles.specs.Marks.{MarksAsked, Marked}
 use Rattle.coding.specs.Systems.{SystemAsked, SystemWritten}
 use Rattle.map_theory.proofs.MapOf.{length-mapOf}
 use Rattle.map_theory.proofs.Theorems.{table-canonical, table-weight}
-use Rattle.mapping.specs.Images.{HeldMap}
-use Rattle.cycles.specs.Marks.{MarksAsked, Marked}
-use Rattle.coding.specs.Systems.{SystemAsked, SystemWritten}
-use Rattle.map_theory.proofs.MapOf.{length-mapOf}
-use Rattle.map_theory.proofs.Theorems.{table-canonical, table-weight}
+use Rattle.written.specs.Putting.{Placed}
+use Rattle.maps.specs.Images.{HeldMap}
+use Rattle.maps.specs.Marks.{MarksAsked, Marked}
+use Rattle.maps.specs.Systems.{SystemAsked, SystemWritten}
+use Rattle.maps.proofs.MapOf.{length-mapOf}
+use Rattle.maps.proofs.Theorems.{table-canonical, table-weight}
 use Rattle.engine.specs.Tables.{Table, CodeAsked, CodeWritten}
 use Rattle.engine.proofs.Accepting.{Taken}
-use Rattle.engine.proofs.Writing.{canonical-held}
+use Rattle.engine.proofs.Writing.{canonical-held, code-first}
 
 module _ {f : List ℕ} (t : Table f) where
   -- a place for each point, out of room for 200
@@ -84,9 +85,10 @@ module _ {f : List ℕ} (t : Table f) where
     system-held =
         canonical-held system-holds (table-canonical (length f) f refl (t .table)) (omega (arith, table-weight (length f) f refl (t .table), t .small))
 
-    pub code-written : {r : ℕ} {code : List ℕ}
-        → ((S : System) → Holds S (take m (sizes ++ rest)) (take (length f) (numbers ++ more)) → Wrote (written S) r code) → CodeWritten f r labelled code
-    code-written h = record { wrote = h (systemOfTable f) system-holds; points-are = w .labels-are }
+    pub code-written : {r : ℕ} {before code : List ℕ} → length before ≡ 1000
+        → ((S : System) → Holds S (take m (sizes ++ rest)) (take (length f) (numbers ++ more)) → Placed (written S) 0 before r code)
+        → CodeWritten f r labelled code
+    code-written {before = before} e h = record { wrote = code-first system-held before e h (systemOfTable f) system-holds; points-are = w .labels-are }
 
 -- the code of the table was put
 pub coded-put : {f points code : List ℕ} {r : ℕ} {before after : List ℕ} {a : Answer} → CodeWritten f r points code

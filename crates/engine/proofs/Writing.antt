@@ -3,9 +3,10 @@ use mathlib.Core.Path.{_≡_, refl, ap, sym, _∙_, subst}
 use mathlib.Core.Bool.{true}
 use mathlib.Core.List.{List, [], _∷_}
 use mathlib.Core.Option.{Option, none, some}
-use Prim.Native.Nat.{ℕ, _≤_, _<_}
+use Prim.Native.Nat.{ℕ, _+_, _≤_, _<_}
 use native.Mathlib.Omega.{arith}
-use lib.ListN.{length, take, replicate, length-take}
+use lib.ListN.{length, take, drop, replicate, length-take}
+use lib.Seq.{take-at}
 use borrow.Author.Tests.{le-ltb, lt-ltb}
 use Rattle.lists.specs.Select.{first, next}
 use Rattle.lists.proofs.Members.{in-head, in-list}
@@ -21,43 +22,47 @@ use Rattle.memory.specs.Memory.{Holds}
 use Rattle.memory.specs.Memory.{HeldSystem}
 use Rattle.systems.specs.declared.Stepped.{Stepped}
 use Rattle.systems.specs.declared.Stepped.the-variants.{Next, Last}
-use Rattle.systems.specs.Held.{Wrote, HeldWritable, HeldStep, SteppedTo}
+use Rattle.systems.specs.Held.{HeldStep, SteppedTo}
 use Rattle.system_theory.specs.Step.{step}
-use Rattle.form_theory.proofs.Readback.{canonical-nonempty, components-points}
+use Rattle.form_theory.proofs.Readback.{canonical-nonempty}
+use Rattle.form_theory.proofs.Stretches.{written-short}
+use Rattle.written.specs.Putting.{Placed}
+use Rattle.written.proofs.Placing.{placed-length}
+use Rattle.writing.specs.Writable.{SystemRoom}
 use Rattle.memory.proofs.Parts.{held-count, held-points, held-unique}
 use Rattle.system_theory.proofs.Codes.{codes-sound}
 use Rattle.system_theory.proofs.Firsts.{codes-first}
 use Rattle.system_theory.proofs.Step.{step-is, step-keeps}
 use Rattle.engine.specs.Memory.{HeldNext}
+use Rattle.engine.specs.Tables.{Wrote}
 use Rattle.engine.proofs.Accepting.{Taken, taken-count}
 
 -- a canonical system that is held
 pub canonical-held : {S : System} {sizes numbers : List ℕ} → Holds S sizes numbers → canonical S ≡ true → weight S ≤ 200 → HeldSystem sizes numbers
 canonical-held {S} h c w = record { system = S; holds = h; each-nonempty = canonical-nonempty S c; small = w }
 
-module _ {sizes numbers : List ℕ} (h : HeldSystem sizes numbers) where
+module _ {sizes numbers : List ℕ} (h : HeldSystem sizes numbers) (out : List ℕ) (e : length out ≡ 1000) where
+  code-short : length (written (h .system)) ≤ 804
+  code-short = written-short (h .system) (h .each-nonempty) (h .small)
+
   -- there is room for its code
-  pub code-fits : (out : List ℕ) → length out ≡ 1000 → HeldWritable sizes numbers out 4
-  code-fits out e =
-      let few = components-points (h .system) (h .each-nonempty) in
-      let m = held-count (h .holds) in
-      let n = held-points (h .holds) in
+  pub code-fits : SystemRoom sizes numbers out 0
+  code-fits = record { held = h; room = omega (arith, code-short) }
+
+  -- it stands in the first places
+  pub code-first : {r : ℕ} {after : List ℕ} → ((S : System) → Holds S sizes numbers → Placed (written S) 0 out r after)
+      → (S : System) → Holds S sizes numbers → Wrote (written S) r after
+  code-first {r} {after} f S k =
+      let p = f S k in
+      let l = written S in
+      let n : r ≡ length l = omega (arith, p .end) in
+      let short : length l ≤ 804 = rw (held-unique (h .holds) k) at code-short in
+      let same = ap length (p .output) ∙ placed-length 0 l out (omega arith) in
       record {
-        system = h .system;
-        holds = h .holds;
-        few = omega (arith, h .small);
-        small = omega (arith, h .small);
-        room = omega (arith, h .small);
+        end = n;
+        fits = omega (arith, same);
+        is = ap (take r) (p .output) ∙ take-at l (drop (0 + length l) out) r (sym n);
       }
-
-  module _ {r : ℕ} {code : List ℕ} (w : (S : System) → Holds S sizes numbers → Wrote (written S) r code) where
-    pub code-within : r ≤ length code
-    code-within = w (h .system) (h .holds) .fits
-
-    -- the code was put
-    pub code-put : {before after : List ℕ} {a : Answer} → Replied (gives (take r code)) before a after
-        → (S : System) → Holds S sizes numbers → Replied (gives (written S)) before a after
-    code-put {before} {after} {a} p S k = subst (λ l. Replied (gives l) before a after) (w S k .is) p
 
 -- The first code.
 module _ (n : ℕ) where

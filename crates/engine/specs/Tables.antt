@@ -3,7 +3,7 @@ use mathlib.Core.Path.{_≡_}
 use mathlib.Core.Bool.{true}
 use mathlib.Core.List.{List}
 use Prim.Native.Nat.{ℕ, _≤_, _<_}
-use lib.ListN.{length}
+use lib.ListN.{length, take}
 use Rattle.patterns.specs.Table.{image, isTable, systemOfTable}
 use Rattle.patterns.specs.MapOf.{mapOf}
 use Rattle.patterns.specs.Isomorphism.{Isomorphism}
@@ -13,7 +13,6 @@ use Rattle.patterns.specs.Replies.{Answer}
 use Rattle.patterns.specs.Entry.{Replied, gives}
 use Rattle.patterns.specs.declared.reply.Reply.{Reply}
 use Rattle.patterns.specs.declared.reply.Reply.the-variants.{Length, Refused}
-use Rattle.systems.specs.Held.{Wrote}
 
 -- the number of points of a table that passes the checks
 abbrev pub tableReply : Result (List ℕ) → Reply
@@ -24,6 +23,12 @@ tableReply (fault c) = Refused c
 pub record Table (f : List ℕ) : Type 0 where
   pub table : isTable f ≡ true
   pub small : length f ≤ 200
+
+-- the first r places hold l
+pub record Wrote (l : List ℕ) (r : ℕ) (out : List ℕ) : Type 0 where
+  pub end : r ≡ length l
+  pub fits : r ≤ length out
+  pub is : take r out ≡ l
 
 -- a table, a place for each of its points, and room for its code
 pub record CodeAsked (f points code : List ℕ) : Type 0 where

@@ -19,6 +19,7 @@ use reading::Accepted;
 use systems::Stepped;
 use systems::first_system;
 use systems::next_system;
+use writing::put_system;
 use writing::write_system;
 use written::put;
 ghost use denote.Ref.{now};
@@ -61,17 +62,6 @@ pub fn accept(code: &[u8]) -> Reply
         Accepted::System(_, n) => Reply::Length(n),
         Accepted::Refused(cause) => Reply::Refused(cause),
     }
-}
-
-// Puts the written code of the system into `out`.
-fn put_system(sizes: &[u8], numbers: &[u8], out: &mut [u8]) -> Reply
-    requires { ⌜ HeldSystem (now sizes) (now numbers) ⌝ }
-    ensures { λ r. ⌜ ((S : System) → Holds S (now (sizes .entry)) (now (numbers .entry))
-        → Replied (gives (writtenOf S)) (now (out .entry)) (answerOf r) (now (out .exit))) ⌝ }
-{
-    let mut code = code_room();
-    let end = write_system(sizes, numbers, &mut code);
-    put(&code[..end], out)
 }
 
 // Puts the first code of as many points as both slices have places into `out`.
@@ -191,7 +181,7 @@ fn write_code(table: &[u8], points: &mut [u8], code: &mut [u8]) -> usize
         &mut numbers[..n],
         points,
     );
-    write_system(&sizes[..m], &numbers[..n], code)
+    write_system(&sizes[..m], &numbers[..n], code, 0)
 }
 
 // Puts the code of a table into `out`.

@@ -83,7 +83,8 @@ same-length-2 c = search needs
 
 returns : tie.Need-returns
 returns c =
-    code-written (c .before .before .before .before .before .before .before .before .before .before .before .before .before .before .before .before .before .before .before .before .before .before .before .before .pre .checked) (c .before .before .before .before .before .before .before .before .before .before .write-system .ensures) _ _ (c .before .before .write-system2 .ensures)
+    let asked = c .before .before .before .before .before .before .before .before .before .before .before .before .before .before .before .before .before .before .before .before .before .before .before .before .pre in
+    code-written (asked .checked) (c .before .before .before .before .before .before .before .before .before .before .write-system .ensures) _ _ (asked .code-room) (c .before .before .write-system2 .ensures)
 
 pub write-code-spec : {M : Type 1} → statement M
 write-code-spec =
