@@ -1,2 +1,3 @@
 -- The laws of accepting a code.
 pub mod Acceptance
+pub mod Taken

@@ -18,7 +18,7 @@ use Rattle.patterns.specs.System.{System, weight}
 use Rattle.patterns.specs.Reading.{Result, done, fault, accepted}
 use Rattle.patterns.specs.Replies.{Answer, length-is, refused, numberOf}
 use Rattle.patterns.specs.Entry.{Outcome, gives, ends, lacks, fails, answer, answered, Replied, acceptOf, IsomorphismReplied}
-use Rattle.engine.proofs.Accepting.{accepted-canonical}
+use Rattle.acceptance.proofs.Taken.{accepted-canonical}
 use Rattle.patterns.proofs.Causes.{cause-number}
 use Rattle.patterns.specs.SignedReplies.{signedOf, Reported, IsomorphismReported}
 

@@ -22,7 +22,7 @@ use Rattle.map_theory.proofs.Isomorphisms.{table-below}
 use Rattle.map_theory.proofs.CensusTheory.{lengths-add-up, cycle-points-bound, census-fits}
 use Rattle.patterns.specs.Census.{rowsOf}
 use Rattle.patterns.specs.Entry.{RowsReplied}
-use Rattle.engine.proofs.Tables.{checked-table}
+use Rattle.tables.proofs.Tables.{checked-table}
 use Rattle.patterns.specs.SignedReplies.{signedOf, entriesOf, heightIn, longestIn, heightOf, longestOf, CensusReported}
 use Rattle.c_interface.proofs.Fitting.{Fits, read-back, refused-fits, small-fits}
 

@@ -16,21 +16,21 @@ use Rattle.patterns.specs.Replies.{answerOf}
 use Rattle.patterns.specs.Replies.{successorAnswer, isomorphismAnswer, censusAnswer}
 use Rattle.patterns.specs.Replies.{rowOf}
 use Rattle.patterns.specs.Entry.{RowsReplied}
-use Rattle.engine.proofs.accept.Reads as accept
-use Rattle.engine.proofs.accept.Kinds as accept-kinds
-use Rattle.engine.proofs.first.Reads as first
-use Rattle.engine.proofs.first.Kinds as first-kinds
+use Rattle.code_entries.proofs.accept.Reads as accept
+use Rattle.code_entries.proofs.accept.Kinds as accept-kinds
+use Rattle.code_entries.proofs.first.Reads as first
+use Rattle.code_entries.proofs.first.Kinds as first-kinds
 use Rattle.engine.proofs.successor.Reads as successor
 use Rattle.engine.proofs.successor.Kinds as successor-kinds
-use Rattle.engine.proofs.code_of_map.Reads as code-of-map
-use Rattle.engine.proofs.code_of_map.Kinds as code-of-map-kinds
-use Rattle.engine.proofs.map_of_code.Reads as map-of-code
-use Rattle.engine.proofs.map_of_code.Kinds as map-of-code-kinds
-use Rattle.engine.proofs.isomorphism.Reads as isomorphism
-use Rattle.engine.proofs.isomorphism.Kinds as isomorphism-kinds
+use Rattle.map_entries.proofs.code_of_map.Reads as code-of-map
+use Rattle.map_entries.proofs.code_of_map.Kinds as code-of-map-kinds
+use Rattle.code_entries.proofs.map_of_code.Reads as map-of-code
+use Rattle.code_entries.proofs.map_of_code.Kinds as map-of-code-kinds
+use Rattle.map_entries.proofs.isomorphism.Reads as isomorphism
+use Rattle.map_entries.proofs.isomorphism.Kinds as isomorphism-kinds
 use Rattle.engine.proofs.census as census
-use Rattle.engine.proofs.census_columns.Reads as census-columns
-use Rattle.engine.proofs.census_columns.Kinds as census-columns-kinds
+use Rattle.census_entries.proofs.census_columns.Reads as census-columns
+use Rattle.census_entries.proofs.census_columns.Kinds as census-columns-kinds
 
 -- `accept`: the reply
 pub accept-promise : (κs : Lfts 1) (a : Dens κs accept-kinds.ps) (r : _) (s : _) → accept.Post κs a r s → answerOf r ≡ acceptOf (now (a .0))

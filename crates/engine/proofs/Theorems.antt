@@ -27,8 +27,8 @@ use Rattle.form_theory.proofs.Bounds.{allBelow}
 use Rattle.form_theory.proofs.WrittenBack.{accepted-is, written-equal}
 use Rattle.map_theory.proofs.MapOf.{length-mapOf, mapOf-table}
 use Rattle.map_theory.proofs.Theorems.{table-canonical, table-weight, system-of-map, renaming-system, system-same-isomorphic}
-use Rattle.engine.specs.Tables.{Table}
-use Rattle.engine.proofs.Tables.{checked-table}
+use Rattle.tables.specs.Tables.{Table}
+use Rattle.tables.proofs.Tables.{checked-table}
 
 -- a length is the reply only where there is a result, which then stands in the first places
 pub result-written : (o : Outcome ℕ) {before after : List ℕ} {n : ℕ} → Replied o before (length-is n) after

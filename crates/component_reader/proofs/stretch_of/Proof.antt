@@ -1,7 +1,7 @@
 use denote.Ref.{now}
 use mathlib.Core.Path.{sym}
 use lib.Seq.{length-take-le}
-use Rattle.engine.proofs.Accepting.{code-taken, code-refused, taken-held, taken-count, taken-points}
+use Rattle.acceptance.proofs.Taken.{code-taken, code-refused, taken-held, taken-count, taken-points}
 use Rattle.patterns.specs.Replies.{partAnswer}
 use Rattle.component_reader.proofs.Showing.{code-fault, code-holds}
 use borrow.Author.Needs.{needs}

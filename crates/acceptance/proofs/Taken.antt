@@ -1,0 +1,87 @@
+-- What the reply to a written code says of it, and of the memory that it was read into.
+use mathlib.Core.Path.{_≡_, refl, ap, sym, _∙_}
+use mathlib.Core.Bool.{true}
+use mathlib.Core.List.{List}
+use Prim.Native.Nat.{ℕ, _≤_}
+use native.Mathlib.Omega.{arith}
+use lib.ListN.{length, take, length-take}
+use Rattle.lists.proofs.Tests.{clash}
+use Rattle.patterns.specs.declared.Refusal.{Refusal}
+use Rattle.patterns.specs.System.{System, weight, canonical}
+use Rattle.patterns.specs.Reading.{Result, done, fault, cut, readSystem, accepted}
+use Rattle.patterns.specs.Replies.{length-is, refused, numberOf}
+use Rattle.patterns.specs.Entry.{acceptOf}
+use Rattle.reading.specs.declared.Accepted.{Accepted}
+use Rattle.reading.specs.declared.Accepted.the-variants.{System as Held, Refused as NotAccepted}
+use Rattle.memory.specs.Memory.{Holds}
+use Rattle.memory.specs.Memory.{HeldSystem}
+use Rattle.reading.specs.Shape.{acceptance, AcceptedInto}
+use Rattle.form_theory.proofs.Results.{Good, good-then, good-weaken, good-done}
+use Rattle.form_theory.proofs.Readback.{system-good, canonical-nonempty}
+use Rattle.memory.proofs.Parts.{held-count, held-points}
+
+anything-good : {A : Type 0} (r : Result A) → Good (λ x. Unit {0}) r
+anything-good (done x) = tt
+anything-good (fault c) = tt
+
+abbrev Sound : System → Type 0
+Sound S = (canonical S ≡ true) × (weight S ≤ 200)
+
+-- what is accepted is canonical, with at most 200 points
+pub accepted-canonical : (b : List ℕ) (S : System) → accepted b ≡ done S → (canonical S ≡ true) × (weight S ≤ 200)
+unfolding accepted
+accepted-canonical b S e =
+    good-done Sound (accepted b) S e
+    (good-then (λ xs. Unit {0}) Sound (cut b) readSystem (anything-good (cut b)) (λ xs u.
+    good-weaken _ Sound (readSystem xs) (system-good xs) (λ R q. (q .1, q .2))))
+
+-- The bytes b were accepted, and the first m and n places of the memory hold their system.
+pub record Taken (b sizes trees : List ℕ) (m n : ℕ) : Type 0 where
+  pub system : System
+  pub is : accepted b ≡ done system
+  pub canonical-is : canonical system ≡ true
+  pub small : weight system ≤ 200
+  pub count : length system ≡ m
+  pub points-are : weight system ≡ n
+  pub holds : Holds system (take m sizes) (take n trees)
+
+module _ (b : List ℕ) {r : Accepted} {sizes trees : List ℕ} (a : AcceptedInto (accepted b) r sizes trees) where
+  -- the bytes were refused
+  pub code-refused : (c : Refusal) → r ≡ NotAccepted c → accepted b ≡ fault c
+  code-refused c e = of (accepted b) (sym e ∙ a .reply)
+    where
+      of : (o : Result System) → NotAccepted c ≡ acceptance o → o ≡ fault c
+      of (done S) q = clash cc
+      of (fault d) q = let z : c ≡ d = cc in ap fault (sym z)
+
+  -- or accepted
+  pub code-taken : (m n : ℕ) → r ≡ Held m n → Taken b sizes trees m n
+  code-taken m n e = of (accepted b) refl (sym e ∙ a .reply)
+    where
+      of : (o : Result System) → accepted b ≡ o → Held m n ≡ acceptance o → Taken b sizes trees m n
+      of (done S) p q =
+          let u : m ≡ length S = cc in
+          let v : n ≡ weight S = cc in
+          let k = accepted-canonical b S p in
+          record { system = S; is = p; canonical-is = k .0; small = k .1; count = sym u; points-are = sym v; holds = rw (u, v) (a .held S p) }
+      of (fault c) p q = clash cc
+
+-- the reply of acceptance
+pub accept-refused : (b : List ℕ) (c : Refusal) → accepted b ≡ fault c → refused (numberOf c) ≡ acceptOf b
+unfolding acceptOf
+accept-refused b c e = rw e
+
+module _ {b sizes trees : List ℕ} {m n : ℕ} (t : Taken b sizes trees m n) where
+  pub accept-points : length-is n ≡ acceptOf b
+  unfolding acceptOf
+  accept-points = rw (t .is) (ap length-is (sym (t .points-are)))
+
+  pub taken-held : HeldSystem (take m sizes) (take n trees)
+  taken-held =
+      record { system = t .system; holds = t .holds; each-nonempty = canonical-nonempty (t .system) (t .canonical-is); small = t .small }
+
+  pub taken-count : m ≤ length sizes
+  taken-count = omega (arith, held-count (t .holds), length-take m sizes, t .count)
+
+  pub taken-points : n ≤ length trees
+  taken-points = omega (arith, held-points (t .holds), length-take n trees, t .points-are)

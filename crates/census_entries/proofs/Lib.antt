@@ -1,0 +1,3 @@
+-- The laws that the entries cite.
+pub mod Columns
+pub mod Decisions

@@ -1,0 +1,3 @@
+-- The laws that the entries cite.
+pub mod CodesPut
+pub mod MapsPut

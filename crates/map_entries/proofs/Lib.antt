@@ -1,0 +1,4 @@
+-- The laws that the entries cite.
+pub mod CodedPut
+pub mod Sending
+pub mod Compared

@@ -1,0 +1,2 @@
+-- What the parts of the entries ask and answer.
+pub mod Sends
