@@ -1,42 +1,37 @@
--- Two tables with their codes and points: an isomorphism where the codes are equal, and none where they differ.
+-- Two tables with their systems and labels: an isomorphism where the systems are equal, and none where they differ.
 use mathlib.Core.Path.{_≡_, refl, ap, sym, _∙_, subst}
-use mathlib.Core.Bool.{true≢false}
-use mathlib.Core.List.{List, _++_}
-use Prim.Native.Nat.{ℕ, _≤_, _<_, Ordering·eq, compare}
+use mathlib.Core.Bool.{Bool, true, false, _&&_}
+use mathlib.Core.List.{List, map}
+use Prim.Native.Nat.{ℕ, _<_, compare}
 use native.Mathlib.Omega.{arith}
-use lib.Dec.{isEq}
-use lib.ListN.{length, take, length-append}
-use lib.Seq.{take-at}
+use lib.ListN.{length, take}
 use borrow.Author.Tests.{le-ltb}
-use Rattle.lists.specs.Order.{lex}
-use Rattle.lists.specs.declared.Order.{Order}
-use Rattle.lists.specs.declared.Order.the-variants.{Less, Equal, Greater}
-use Rattle.lists.specs.Blocks.{orderingOf}
-use Rattle.lists.proofs.Comparison.{lt-not-eq}
+use Rattle.lists.specs.Order.{lex, same}
+use Rattle.lists.specs.Select.{gather}
+use Rattle.lists.proofs.Tests.{and-true, no-both}
 use Rattle.lists.proofs.Lex.{lex-compare-lawful}
-use Rattle.lists.proofs.Members.{nodup-range}
+use Rattle.lists.proofs.Members.{nodup-range, lawful-decides}
 use Rattle.lists.proofs.Permute.{perm-sym}
 use Rattle.lists.proofs.Places.{nodup-index}
+use Rattle.lists.proofs.Gathering.{perm-nodup}
 use Rattle.patterns.specs.declared.Refusal.{Refusal}
+use Rattle.patterns.specs.Component.{points, flat}
 use Rattle.patterns.specs.System.{weight}
-use Rattle.patterns.specs.Written.{written}
 use Rattle.patterns.specs.Table.{image, systemOfTable}
 use Rattle.patterns.specs.MapOf.{mapOf}
 use Rattle.patterns.specs.Isomorphism.{Isomorphism}
 use Rattle.patterns.specs.Reading.{done, fault}
 use Rattle.patterns.specs.Replies.{Answer, lacking, refused, numberOf}
 use Rattle.patterns.specs.Entry.{gives, lacks, fails, checkedTable, IsomorphismReplied, first-refused, second-refused, found, lengths-differ, not-found}
-use Rattle.form_theory.proofs.WrittenBack.{written-equal}
+use Rattle.memory.proofs.Parts.{trees-unique}
 use Rattle.map_theory.proofs.MapOf.{length-mapOf, mapOf-table}
-use Rattle.form_theory.proofs.WrittenBack.{written-equal}
-use Rattle.map_theory.proofs.MapOf.{length-mapOf, mapOf-table}
-use Rattle.lists.proofs.Gathering.{perm-nodup}
 use Rattle.map_theory.proofs.Isomorphisms.{table-below, isomorphism-perm, isomorphism-below, isomorphism-through}
-use Rattle.map_theory.proofs.Theorems.{table-canonical, table-weight, renaming-system}
+use Rattle.map_theory.proofs.Theorems.{table-weight, isomorphic-same-system}
 use Rattle.tables.specs.Tables.{Table}
-use Rattle.engine.specs.Tables.{CodeAsked, CodeWritten}
+use Rattle.coding.specs.declared.LabelledSystem.{LabelledSystem}
+use Rattle.coding.specs.Systems.{CodedAs}
 use Rattle.map_entries.specs.Sends.{Matched, SendsPut, SameLength}
-use Rattle.engine.proofs.Coding.{code-asked}
+use Rattle.map_entries.proofs.CodedPut.{sizes-front}
 
 -- a table passes the checks
 pub table-passes : {f : List ℕ} → Table f → checkedTable f ≡ done f
@@ -54,96 +49,86 @@ module _ (f g before : List ℕ) where
   pub lengths-bad : Table f → Table g → (length f ≡ length g → ⊥) → IsomorphismReplied f g before lacking before
   lengths-bad t u h = record { found = lacks; isFound = lengths-differ (table-passes t) (table-passes u) h; replied = record { reply = refl; output = refl } }
 
--- the points of a table with its code are all different
-pub points-different : {n : ℕ} {m f a : List ℕ} → Isomorphism n m f a → (i j : ℕ) → i < n → j < n → image a i ≡ image a j → i ≡ j
-points-different {n} {m} {f} {a} p i j h k e =
+-- the labels of a table's system are all different
+labels-different : {n : ℕ} {m f a : List ℕ} → Isomorphism n m f a → (i j : ℕ) → i < n → j < n → image a i ≡ image a j → i ≡ j
+labels-different {n} {m} {f} {a} p i j h k e =
     nodup-index 0 i j (perm-nodup (perm-sym (isomorphism-perm p)) (nodup-range 0 n)) (omega (arith, p .points)) (omega (arith, p .points)) e
 
--- room for the points of the second table
-pub other-asked : {f g : List ℕ} → SameLength f g → (room code : List ℕ) → length room ≡ 200 → length code ≡ 1000 → CodeAsked g (take (length f) room) code
-other-asked {f} {g} t room code e k = subst (λ n. CodeAsked g (take n room) code) (t .same) (code-asked (t .second) room code e k)
+-- two lists of bytes that the test says to be the same, or not
+equal-lists : (l m : List ℕ) → same (lex compare) l m ≡ true → l ≡ m
+equal-lists l m e = lawful-decides lex-compare-lawful .sound l m e
 
-pub less-differs : (o : Order) → o ≡ Less → orderingOf o ≡ Ordering·eq → ⊥
-less-differs o e k = lt-not-eq (ap orderingOf e) k
+same-lists : {l m : List ℕ} → l ≡ m → same (lex compare) l m ≡ true
+same-lists {l} {m} e = ap (same (lex compare) l) (sym e) ∙ lawful-decides lex-compare-lawful .self l
 
-pub greater-differs : (o : Order) → o ≡ Greater → orderingOf o ≡ Ordering·eq → ⊥
-greater-differs o e k = true≢false (sym (ap isEq k) ∙ ap isEq (ap orderingOf e))
+module _ {f g : List ℕ} (t : SameLength f g) (a b : LabelledSystem) (p : CodedAs f a) (q : CodedAs g b) where
+  abbrev sizes-same : Bool
+  sizes-same = same (lex compare) (take (a .components) (a .sizes)) (take (b .components) (b .sizes))
 
-module _ {f g : List ℕ} (t : SameLength f g) {a b code other : List ℕ} {end stop : ℕ} (p : CodeWritten f end a code) (q : CodeWritten g stop b other) where
-  pub points-matched : Matched a b
-  points-matched =
-      let l : length a ≡ length f = p .points-are .points in
-      record {
-        beside = q .points-are .points ∙ t .same ∙ sym l;
-        small = omega (arith, t .first .small);
-        inside = λ j h. let k = isomorphism-below (p .points-are) j (omega arith) in omega arith;
-        different = λ i j h k e. points-different (p .points-are) i j (omega arith) (omega arith) e;
-      }
+  abbrev trees-same : Bool
+  trees-same = same (lex compare) (take (length f) (a .trees)) (take (length f) (b .trees))
 
-  same-codes : (o : Order) → orderingOf o ≡ lex compare (take end code) (take stop other) → o ≡ Equal → systemOfTable f ≡ systemOfTable g
-  same-codes o e k =
-      let u = t .first in
-      let v = t .second in
-      let same : take end code ≡ take stop other = lex-compare-lawful .equal _ _ (sym e ∙ ap orderingOf k) in
-      written-equal (systemOfTable f) (systemOfTable g) (table-canonical (length f) f refl (u .table)) (table-canonical (length g) g refl (v .table))
-      (omega (arith, table-weight (length f) f refl (u .table), u .small))
-      (omega (arith, table-weight (length g) g refl (v .table), v .small))
-      (sym (p .wrote .is) ∙ same ∙ q .wrote .is)
+  other-trees : take (length f) (b .trees) ≡ gather flat (systemOfTable g)
+  other-trees = ap (λ n. take n (b .trees)) (sym (t .same)) ∙ q .trees-are
 
-  other-codes : (o : Order) → orderingOf o ≡ lex compare (take end code) (take stop other) → (orderingOf o ≡ Ordering·eq → ⊥)
-      → (r : List ℕ) → Isomorphism (length f) f g r → ⊥
-  other-codes o e k r i =
-      let same : take end code ≡ take stop other =
-      p .wrote .is ∙ ap written (renaming-system (length f) f g r refl (t .first .table) (t .same) i) ∙ sym (q .wrote .is) in
-      k (e ∙ ap (λ l. lex compare l (take stop other)) same ∙ lex-compare-lawful .self (take stop other))
+  -- both tests say so: the systems are the same
+  same-systems : sizes-same && trees-same ≡ true → systemOfTable f ≡ systemOfTable g
+  same-systems e =
+      let h = and-true sizes-same trees-same e in
+      trees-unique (systemOfTable f) (systemOfTable g)
+      (sym (sizes-front a p) ∙ equal-lists (take (a .components) (a .sizes)) (take (b .components) (b .sizes)) (h .0) ∙ sizes-front b q)
+      (sym (p .trees-are) ∙ equal-lists (take (length f) (a .trees)) (take (length f) (b .trees)) (h .1) ∙ other-trees)
 
-  -- the codes differ: there is no isomorphism
-  pub codes-differ : (o : Order) → orderingOf o ≡ lex compare (take end code) (take stop other) → (orderingOf o ≡ Ordering·eq → ⊥)
-      → (before : List ℕ) → IsomorphismReplied f g before lacking before
-  codes-differ o e k before =
+  -- the systems are the same: both tests say so
+  systems-same : systemOfTable f ≡ systemOfTable g → sizes-same && trees-same ≡ true
+  systems-same e =
+      rw (same-lists (sizes-front a p ∙ ap (map points) e ∙ sym (sizes-front b q)))
+      (same-lists (p .trees-are ∙ ap (gather flat) e ∙ sym other-trees))
+
+  -- they are not: there is no isomorphism
+  pub systems-differ : sizes-same && trees-same ≡ false → (before : List ℕ) → IsomorphismReplied f g before lacking before
+  systems-differ e before =
       record {
         found = lacks;
-        isFound = not-found (table-passes (t .first)) (table-passes (t .second)) (sym (t .same)) (other-codes o e k);
+        isFound = not-found (table-passes (t .first)) (table-passes (t .second)) (sym (t .same))
+            (λ r i. no-both (systems-same (isomorphic-same-system (length f) f g r refl (t .first .table) (t .same) i)) e);
         replied = record { reply = refl; output = refl };
       }
 
-  -- the codes are equal: the table that was put is an isomorphism
-  pub codes-equal : (o : Order) → orderingOf o ≡ lex compare (take end code) (take stop other) → o ≡ Equal
-      → {before after : List ℕ} {x : Answer} → SendsPut a b before x after → IsomorphismReplied f g before x after
-  codes-equal o e k {before} {after} {x} w =
+  abbrev these : List ℕ
+  these = take (length f) (a .labels)
+
+  abbrev those : List ℕ
+  those = take (length f) (b .labels)
+
+  -- the labels of g, as many as those of f
+  others-are : Isomorphism (length f) (mapOf (systemOfTable g)) g those
+  others-are = subst (λ n. Isomorphism n (mapOf (systemOfTable g)) g (take n (b .labels))) (t .same) (q .labels-are)
+
+  pub labels-matched : Matched these those
+  labels-matched =
+      let l : length these ≡ length f = p .labels-are .points in
+      record {
+        beside = others-are .points ∙ sym l;
+        small = omega (arith, t .first .small);
+        inside = λ j h. let k = isomorphism-below (p .labels-are) j (omega arith) in omega arith;
+        different = λ i j h k e. labels-different (p .labels-are) i j (omega arith) (omega arith) e;
+      }
+
+  -- they are: the table that was put is an isomorphism
+  pub systems-equal : sizes-same && trees-same ≡ true → {before after : List ℕ} {x : Answer} → SendsPut these those before x after
+      → IsomorphismReplied f g before x after
+  systems-equal e {before} {after} {x} w =
       let n = length f in
       let S = systemOfTable f in
       let heavy : weight S ≡ n = table-weight n f refl (t .first .table) in
-      let l : length a ≡ n = p .points-are .points in
-      let beside : Isomorphism n (mapOf S) g b =
-      subst (λ R. Isomorphism n (mapOf R) g b) (sym (same-codes o e k)) (subst (λ j. Isomorphism j (mapOf (systemOfTable g)) g b) (t .same) (q .points-are)) in
+      let l : length these ≡ n = p .labels-are .points in
+      let beside : Isomorphism n (mapOf S) g those = subst (λ R. Isomorphism n (mapOf R) g those) (sym (same-systems e)) others-are in
       record {
         found = gives (w .table);
         isFound =
             found (table-passes (t .first)) (table-passes (t .second)) (sym (t .same))
-            (isomorphism-through (table-below n (mapOf S) (length-mapOf S ∙ heavy) (mapOf-table S)) (p .points-are) beside (w .is .places ∙ l)
+            (isomorphism-through (table-below n (mapOf S) (length-mapOf S ∙ heavy) (mapOf-table S)) (p .labels-are) beside (w .is .places ∙ l)
             (λ j h. w .is .sends j (omega arith)));
         replied = w .replied;
       }
-
-  -- the points stand in the first places of the memory
-  module _ (rest more : List ℕ) where
-    a-length : length a ≡ length f
-    a-length = p .points-are .points
-
-    b-length : length b ≡ length f
-    b-length = q .points-are .points ∙ t .same
-
-    pub a-within : length f ≤ length (a ++ rest)
-    a-within = omega (arith, length-append a rest, a-length)
-
-    pub b-within : length f ≤ length (b ++ more)
-    b-within = omega (arith, length-append b more, b-length)
-
-    pub points-asked : Matched (take (length f) (a ++ rest)) (take (length f) (b ++ more))
-    points-asked = rw (take-at a rest (length f) a-length, take-at b more (length f) b-length) points-matched
-
-    pub points-put : (o : Order) → orderingOf o ≡ lex compare (take end code) (take stop other) → o ≡ Equal
-        → {before after : List ℕ} {x : Answer} → SendsPut (take (length f) (a ++ rest)) (take (length f) (b ++ more)) before x after
-        → IsomorphismReplied f g before x after
-    points-put o e k w = codes-equal o e k (rw (take-at a rest (length f) a-length, take-at b more (length f) b-length) at w)

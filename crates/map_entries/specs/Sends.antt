@@ -4,6 +4,7 @@ use mathlib.Core.List.{List}
 use Prim.Native.Nat.{ℕ, _≤_, _<_}
 use lib.ListN.{length}
 use Rattle.patterns.specs.Table.{image}
+use Rattle.tables.specs.Tables.{Table}
 use Rattle.patterns.specs.Replies.{Answer}
 use Rattle.patterns.specs.Entry.{Replied, gives}
 

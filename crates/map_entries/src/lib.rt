@@ -1,15 +1,20 @@
 // The public entries that take tables: code of a map, isomorphism between two maps.
+use coding::LabelledSystem;
+use coding::coded;
 use lists::Order;
 use lists::compare;
 use patterns::Isomorphism;
 use patterns::Reply;
 use patterns::points_room;
 use tables::check_table;
+use writing::put_system;
 use written::put;
 ghost use denote.Ref.{now};
 ghost use mathlib.Core.Path.{_≡_};
-ghost use mathlib.Core.List.{map};
-ghost use lib.ListN.{length};
+ghost use mathlib.Core.Bool.{_&&_};
+ghost use Prim.Native.Nat.{_≤_, compare as compareNumbers};
+ghost use lib.ListN.{length, take};
+ghost use Rattle.lists.specs.Order.{lex, same};
 ghost use Rattle.patterns.specs.Written.{written as writtenOf};
 ghost use Rattle.patterns.specs.Table.{systemOfTable};
 ghost use Rattle.patterns.specs.Entry.{Replied, Outcome.gives};
@@ -24,10 +29,12 @@ fn put_code(table: &[u8], out: &mut [u8]) -> Reply
     requires { ⌜ Table (now table) ⌝ }
     ensures { λ r. ⌜ Replied (gives (writtenOf (systemOfTable (now (table .entry))))) (now (out .entry)) (answerOf r) (now (out .exit)) ⌝ }
 {
-    let mut points = points_room();
-    let mut code = code_room();
-    let end = write_code(table, &mut points[..table.len()], &mut code);
-    put(&code[..end], out)
+    let n = table.len();
+    let system = coded(table);
+    let sizes = system.sizes;
+    let trees = system.trees;
+    let m = system.components;
+    put_system(&sizes[..m], &trees[..n], out)
 }
 
 // Writes the code of the map `table`.
@@ -51,7 +58,7 @@ fn as_isomorphism(reply: Reply) -> Isomorphism
     }
 }
 
-// `r` sends each of the points `a` to the one beside it in `b`.
+// `r` sends each of the labels `a` to the one beside it in `b`.
 fn send(a: &[u8], b: &[u8], r: &mut [u8])
     requires { ⌜ Matched (now a) (now b) × (length (now r) ≡ length (now a)) ⌝ }
     ensures { λ u. ⌜ Sends (now (a .entry)) (now (b .entry)) (now (r .exit)) ⌝ }
@@ -64,7 +71,7 @@ fn send(a: &[u8], b: &[u8], r: &mut [u8])
     }
 }
 
-// Puts the table that sends each of the points `a` to the one beside it in `b` into `out`.
+// Puts the table that sends each of the labels `a` to the one beside it in `b` into `out`.
 fn put_sent(a: &[u8], b: &[u8], out: &mut [u8]) -> Isomorphism
     requires { ⌜ Matched (now a) (now b) ⌝ }
     ensures { λ r. ⌜ SendsPut (now (a .entry)) (now (b .entry)) (now (out .entry)) (isomorphismAnswer r) (now (out .exit)) ⌝ }
@@ -75,23 +82,49 @@ fn put_sent(a: &[u8], b: &[u8], out: &mut [u8]) -> Isomorphism
     as_isomorphism(put(&table[..n], out))
 }
 
-// Puts an isomorphism between two tables of equally many points into `out`, or says "none": they have one exactly if they have the same code.
+// Both slices hold the same bytes.
+fn equal(s: &[u8], t: &[u8]) -> bool
+    ensures { λ r. ⌜ r ≡ same (lex compareNumbers) (now (s .entry)) (now (t .entry)) ⌝ }
+{
+    match compare(s, t) {
+        Order::Less => false,
+        Order::Equal => true,
+        Order::Greater => false,
+    }
+}
+
+// Two systems of `n` points are the same: their sizes are, and their trees.
+fn same_system(a: LabelledSystem, b: LabelledSystem, n: usize) -> bool
+    requires { ⌜ (a .components ≤ 200) × (b .components ≤ 200) × (n ≤ 200) ⌝ }
+    ensures { λ r. ⌜ r ≡ (same (lex compareNumbers) (take (a .components) (a .sizes)) (take (b .components) (b .sizes))
+        && same (lex compareNumbers) (take n (a .trees)) (take n (b .trees))) ⌝ }
+{
+    let p = a.components;
+    let q = b.components;
+    let first = a.sizes;
+    let second = b.sizes;
+    if !equal(&first[..p], &second[..q]) {
+        return false;
+    }
+    let trees = a.trees;
+    let others = b.trees;
+    equal(&trees[..n], &others[..n])
+}
+
+// Puts an isomorphism between two tables of equally many points into `out`, or says "none": they have one exactly if they have the same system.
 fn put_isomorphism(f: &[u8], g: &[u8], out: &mut [u8]) -> Isomorphism
     requires { ⌜ SameLength (now f) (now g) ⌝ }
     ensures { λ r. ⌜ IsomorphismReplied (now (f .entry)) (now (g .entry)) (now (out .entry)) (isomorphismAnswer r) (now (out .exit)) ⌝ }
 {
     let n = f.len();
-    let mut a = points_room();
-    let mut b = points_room();
-    let mut code = code_room();
-    let mut other = code_room();
-    let end = write_code(f, &mut a[..n], &mut code);
-    let stop = write_code(g, &mut b[..n], &mut other);
-    match compare(&code[..end], &other[..stop]) {
-        Order::Less => Isomorphism::Lacking,
-        Order::Greater => Isomorphism::Lacking,
-        Order::Equal => put_sent(&a[..n], &b[..n], out),
+    let a = coded(f);
+    let b = coded(g);
+    if !same_system(a, b, n) {
+        return Isomorphism::Lacking;
     }
+    let labels = a.labels;
+    let others = b.labels;
+    put_sent(&labels[..n], &others[..n], out)
 }
 
 // Checks the second of two tables, and whether both have equally many points.

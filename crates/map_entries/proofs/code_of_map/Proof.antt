@@ -1,6 +1,6 @@
 use denote.Ref.{now}
 use Rattle.tables.proofs.Tables.{table-refused, table-checked}
-use Rattle.engine.proofs.Coding.{map-refused, map-coded}
+use Rattle.map_entries.proofs.CodedPut.{map-refused, map-coded}
 use borrow.Author.Needs.{needs}
 use Rattle.map_entries.proofs.code_of_map.Statement.{statement}
 use Rattle.map_entries.proofs.code_of_map.Tie as tie

@@ -1,60 +1,61 @@
-use mathlib.Core.Path.{sym}
+use denote.Ref.{now}
+use mathlib.Core.Path.{_≡_, sym}
+use Prim.Native.Nat.{_≤_}
 use native.Mathlib.Omega.{arith}
-use lib.ListN.{length-take}
-use Rattle.engine.proofs.Coding.{places, code-asked, coded-put}
+use lib.ListN.{length}
+use lib.Seq.{length-take-le}
+use Rattle.map_entries.proofs.CodedPut.{components-few, coded-held, coded-put}
 use borrow.Author.Needs.{needs}
-use Rattle.engine.proofs.put_code.Statement.{statement}
+use Rattle.map_entries.proofs.put_code.Statement.{statement}
 use Rattle.map_entries.proofs.put_code.Tie as tie
 
-points-room-requires : tie.Need-points-room-requires
-points-room-requires c κs = search needs
+-- the places that the needs speak of, each named once
+abbrev start : tie.After-coded → tie.Start
+start c = c .before .before .before
 
-code-room-requires : tie.Need-code-room-requires
-code-room-requires c κs = search needs
+abbrev coding : tie.After-trees2 → tie.After-coded
+coding c = c .before .before .before .before
 
-array-borrow-prefix-points : tie.Need-array-borrow-prefix-points
-array-borrow-prefix-points c = search needs
+-- there are as many places as are looked at
+sizes-within : (c : tie.After-coded) → c .coded .result .components ≤ length (c .coded .result .sizes)
+sizes-within c =
+    let l : length (c .coded .result .sizes) ≡ 200 = search needs in
+    omega (arith, components-few (c .coded .result) (c .coded .ensures) (start c .pre))
 
-slice-aggregate-write-code : tie.Need-slice-aggregate-write-code
-slice-aggregate-write-code c = sym (places (c .before .before .before .before .before .pre) _ (c .before .before .points-room .ensures))
+trees-within : (c : tie.After-coded) → length (now (start c .args .table)) ≤ length (c .coded .result .trees)
+trees-within c =
+    let l : length (c .coded .result .trees) ≡ 200 = search needs in
+    omega (arith, start c .pre .small)
 
-slice-aggregate-write-code-2 : tie.Need-slice-aggregate-write-code-2
-slice-aggregate-write-code-2 c = search needs
+array-share-prefix-sizes : tie.Need-array-share-prefix-sizes
+array-share-prefix-sizes c = sizes-within (c .before .before)
 
-write-code-requires : tie.Need-write-code-requires
-write-code-requires c κs =
-    code-asked (c .before .before .before .before .before .before .pre) _ _ (c .before .before .before .points-room .ensures) (c .before .before .code-room .ensures)
+slice-aggregate-put-system : tie.Need-slice-aggregate-put-system
+slice-aggregate-put-system c = sym (length-take-le _ _ (sizes-within (c .before .before .before)))
 
-array-share-prefix-code : tie.Need-array-share-prefix-code
-array-share-prefix-code c = search needs
+array-share-prefix-trees : tie.Need-array-share-prefix-trees
+array-share-prefix-trees c = trees-within (c .before .before .before)
 
-slice-aggregate-put : tie.Need-slice-aggregate-put
-slice-aggregate-put c =
-    let fits = c .before .before .before .write-code .ensures .wrote .fits in
-    rw length-take (omega arith)
+slice-aggregate-put-system-2 : tie.Need-slice-aggregate-put-system-2
+slice-aggregate-put-system-2 c = sym (length-take-le _ _ (trees-within (coding c)))
 
-put-requires : tie.Need-put-requires
-put-requires c κs = search needs
-
-same-length : tie.Need-same-length
-same-length c = search needs
+put-system-requires : tie.Need-put-system-requires
+put-system-requires c κs = let k = coding (c .before) in coded-held (k .coded .result) (k .coded .ensures) (start k .pre)
 
 returns : tie.Need-returns
 returns c =
-    coded-put (c .before .before .before .before .before .before .before .write-code .ensures) (c .before .before .put .ensures)
+    let k = coding (c .before .before .before .before) in
+    coded-put (k .coded .result) (k .coded .ensures) (c .before .before .put-system .ensures)
 
 pub put-code-spec : {M : Type 1} → statement M
 put-code-spec =
     tie.close
     (tie.spec
-    points-room-requires
-    code-room-requires
-    array-borrow-prefix-points
-    slice-aggregate-write-code
-    slice-aggregate-write-code-2
-    write-code-requires
-    array-share-prefix-code
-    slice-aggregate-put
-    put-requires
-    same-length
+    (λ c κs. search needs)
+    array-share-prefix-sizes
+    slice-aggregate-put-system
+    array-share-prefix-trees
+    slice-aggregate-put-system-2
+    put-system-requires
+    (λ c. search needs)
     returns)

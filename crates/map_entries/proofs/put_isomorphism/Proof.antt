@@ -1,153 +1,81 @@
 use denote.Ref.{now}
-use mathlib.Core.Path.{sym}
-use mathlib.Core.List.{[]}
+use mathlib.Core.Path.{_≡_, sym, _∙_}
+use Prim.Native.Nat.{_≤_}
 use native.Mathlib.Omega.{arith}
-use lib.ListN.{length-take}
+use lib.ListN.{length}
 use lib.Seq.{length-take-le}
-use Rattle.engine.proofs.Coding.{places, code-asked}
-use Rattle.map_entries.proofs.Compared.{other-asked, less-differs, greater-differs, codes-differ, a-within, b-within, points-asked, points-put}
+use Rattle.lists.proofs.Tests.{not-of-true, not-of-false}
+use Rattle.map_entries.proofs.CodedPut.{components-few}
+use Rattle.map_entries.proofs.Compared.{systems-differ, labels-matched, systems-equal}
 use borrow.Author.Needs.{needs}
 use Rattle.map_entries.proofs.put_isomorphism.Statement.{statement}
 use Rattle.map_entries.proofs.put_isomorphism.Tie as tie
 
-points-room-requires : tie.Need-points-room-requires
-points-room-requires c κs = search needs
+-- the places that the needs speak of, each named once
+abbrev start : tie.After-coded2 → tie.Start
+start c = c .before .before .before .before .before
 
-points-room-requires-2 : tie.Need-points-room-requires-2
-points-room-requires-2 c κs = search needs
+abbrev both : tie.After-others → tie.After-coded2
+both c = c .before .before .before .before
 
-code-room-requires : tie.Need-code-room-requires
-code-room-requires c κs = search needs
+-- there are as many places as are looked at
+labels-within : (c : tie.After-coded2) → length (now (start c .args .f)) ≤ length (c .before .coded .result .labels)
+labels-within c = let l : length (c .before .coded .result .labels) ≡ 200 = search needs in omega (arith, start c .pre .first .small)
 
-code-room-requires-2 : tie.Need-code-room-requires-2
-code-room-requires-2 c κs = search needs
+others-within : (c : tie.After-coded2) → length (now (start c .args .f)) ≤ length (c .coded2 .result .labels)
+others-within c = let l : length (c .coded2 .result .labels) ≡ 200 = search needs in omega (arith, start c .pre .first .small)
 
-array-borrow-prefix-a : tie.Need-array-borrow-prefix-a
-array-borrow-prefix-a c = search needs
-
-slice-aggregate-write-code : tie.Need-slice-aggregate-write-code
-slice-aggregate-write-code c =
-    sym (places (c .before .before .before .before .before .before .before .before .pre .first) _ (c .before .before .before .before .points-room .ensures))
-
-slice-aggregate-write-code-2 : tie.Need-slice-aggregate-write-code-2
-slice-aggregate-write-code-2 c = search needs
-
-write-code-requires : tie.Need-write-code-requires
-write-code-requires c κs =
-    code-asked (c .before .before .before .before .before .before .before .before .before .pre .first) _ _ (c .before .before .before .before .before .points-room .ensures) (c .before .before .before .code-room .ensures)
-
-array-borrow-prefix-b : tie.Need-array-borrow-prefix-b
-array-borrow-prefix-b c = search needs
-
-slice-aggregate-write-code-3 : tie.Need-slice-aggregate-write-code-3
-slice-aggregate-write-code-3 c =
-    sym (places (c .before .before .before .before .before .before .before .before .before .before .before .before .before .pre .first) _ (c .before .before .before .before .before .before .before .before .points-room2 .ensures))
-
-slice-aggregate-write-code-4 : tie.Need-slice-aggregate-write-code-4
-slice-aggregate-write-code-4 c = search needs
-
-write-code-requires-2 : tie.Need-write-code-requires-2
-write-code-requires-2 c κs =
-    other-asked (c .before .before .before .before .before .before .before .before .before .before .before .before .before .before .pre) _ _ (c .before .before .before .before .before .before .before .before .before .points-room2 .ensures) (c .before .before .before .before .before .before .before .code-room2 .ensures)
-
-array-share-prefix-code : tie.Need-array-share-prefix-code
-array-share-prefix-code c = search needs
-
-slice-aggregate-compare : tie.Need-slice-aggregate-compare
-slice-aggregate-compare c =
-    let fits = c .before .before .before .before .before .before .before .before .write-code .ensures .wrote .fits in
-    rw length-take (omega arith)
-
-array-share-prefix-other : tie.Need-array-share-prefix-other
-array-share-prefix-other c = search needs
-
-slice-aggregate-compare-2 : tie.Need-slice-aggregate-compare-2
-slice-aggregate-compare-2 c =
-    let fits = c .before .before .before .before .write-code2 .ensures .wrote .fits in
-    rw length-take (omega arith)
-
-compare-requires : tie.Need-compare-requires
-compare-requires c κs = search needs
-
-enum-told : tie.Need-enum-told
-enum-told c = search needs
-
-enum-told-2 : tie.Need-enum-told-2
-enum-told-2 c = search needs
-
-enum-told-3 : tie.Need-enum-told-3
-enum-told-3 c = search needs
-
-array-share-prefix-a : tie.Need-array-share-prefix-a
-array-share-prefix-a c =
-    a-within (c .before .before .before .before .before .before .before .before .before .before .before .before .before .before .before .before .before .before .before .before .before .before .pre) (c .before .before .before .before .before .before .before .before .before .before .before .before .write-code .ensures) (c .before .before .before .before .before .before .before .write-code2 .ensures) _ []
-
-slice-aggregate-put-sent : tie.Need-slice-aggregate-put-sent
-slice-aggregate-put-sent c =
-    sym (length-take-le _ _ (a-within (c .before .before .before .before .before .before .before .before .before .before .before .before .before .before .before .before .before .before .before .before .before .before .before .pre) (c .before .before .before .before .before .before .before .before .before .before .before .before .before .write-code .ensures) (c .before .before .before .before .before .before .before .before .write-code2 .ensures) _ []))
-
-array-share-prefix-b : tie.Need-array-share-prefix-b
-array-share-prefix-b c =
-    b-within (c .before .before .before .before .before .before .before .before .before .before .before .before .before .before .before .before .before .before .before .before .before .before .before .pre) (c .before .before .before .before .before .before .before .before .before .before .before .before .before .write-code .ensures) (c .before .before .before .before .before .before .before .before .write-code2 .ensures) [] _
-
-slice-aggregate-put-sent-2 : tie.Need-slice-aggregate-put-sent-2
-slice-aggregate-put-sent-2 c =
-    sym (length-take-le _ _ (b-within (c .before .before .before .before .before .before .before .before .before .before .before .before .before .before .before .before .before .before .before .before .before .before .before .before .pre) (c .before .before .before .before .before .before .before .before .before .before .before .before .before .before .write-code .ensures) (c .before .before .before .before .before .before .before .before .before .write-code2 .ensures) [] _))
-
-put-sent-requires : tie.Need-put-sent-requires
-put-sent-requires c κs =
-    points-asked (c .before .before .before .before .before .before .before .before .before .before .before .before .before .before .before .before .before .before .before .before .before .before .before .before .before .pre) (c .before .before .before .before .before .before .before .before .before .before .before .before .before .before .before .write-code .ensures) (c .before .before .before .before .before .before .before .before .before .before .write-code2 .ensures) _ _
+same-system-requires : tie.Need-same-system-requires
+same-system-requires c κs =
+    let t = start c .pre in
+    let a = c .before .coded in
+    let b = c .coded2 in
+    (components-few (a .result) (a .ensures) (t .first), components-few (b .result) (b .ensures) (t .second), t .first .small)
 
 returns : tie.Need-returns
 returns c =
-    let start = c .before .before .before .before .before .before .before .before .before .before .before .before .before .before .before .before .before .before .before .before .before .before in
-    let order = c .before .before .compare in
-    codes-differ (start .pre) (c .before .before .before .before .before .before .before .before .before .before .before .before .write-code .ensures) (c .before .before .before .before .before .before .before .write-code2 .ensures) (order .result) (order .ensures) (less-differs (order .result) (c .enum-told .given .1)) (now (start .args .out))
+    let k = c .before .before in
+    let test = c .before .same-system in
+    systems-differ (start k .pre) (k .before .coded .result) (k .coded2 .result) (k .before .coded .ensures) (k .coded2 .ensures)
+    (sym (test .ensures) ∙ not-of-true (test .result) (c .if1 .taken)) _
+
+array-share-prefix-labels : tie.Need-array-share-prefix-labels
+array-share-prefix-labels c = labels-within (both c)
+
+slice-aggregate-put-sent : tie.Need-slice-aggregate-put-sent
+slice-aggregate-put-sent c = sym (length-take-le _ _ (labels-within (both (c .before))))
+
+array-share-prefix-others : tie.Need-array-share-prefix-others
+array-share-prefix-others c = others-within (both (c .before))
+
+slice-aggregate-put-sent-2 : tie.Need-slice-aggregate-put-sent-2
+slice-aggregate-put-sent-2 c = sym (length-take-le _ _ (others-within (both (c .before .before))))
+
+put-sent-requires : tie.Need-put-sent-requires
+put-sent-requires c κs =
+    let k = both (c .before .before .before) in
+    labels-matched (start k .pre) (k .before .coded .result) (k .coded2 .result) (k .before .coded .ensures) (k .coded2 .ensures)
 
 returns-2 : tie.Need-returns-2
 returns-2 c =
-    let start = c .before .before .before .before .before .before .before .before .before .before .before .before .before .before .before .before .before .before .before .before .before .before in
-    let order = c .before .before .compare in
-    codes-differ (start .pre) (c .before .before .before .before .before .before .before .before .before .before .before .before .write-code .ensures) (c .before .before .before .before .before .before .before .write-code2 .ensures) (order .result) (order .ensures) (greater-differs (order .result) (c .enum-told2 .given .1)) (now (start .args .out))
-
-same-length : tie.Need-same-length
-same-length c = search needs
-
-returns-3 : tie.Need-returns-3
-returns-3 c =
-    let order = c .before .before .before .before .before .before .before .before .compare in
-    points-put (c .before .before .before .before .before .before .before .before .before .before .before .before .before .before .before .before .before .before .before .before .before .before .before .before .before .before .before .before .pre) (c .before .before .before .before .before .before .before .before .before .before .before .before .before .before .before .before .before .before .write-code .ensures) (c .before .before .before .before .before .before .before .before .before .before .before .before .before .write-code2 .ensures) _ _ (order .result) (order .ensures) (c .before .before .before .before .before .before .enum-told3 .given .1) (c .before .before .put-sent .ensures)
+    let d = c .before .before .before .before .before .before in
+    let k = both d in
+    let test = d .before .before .before .same-system in
+    systems-equal (start k .pre) (k .before .coded .result) (k .coded2 .result) (k .before .coded .ensures) (k .coded2 .ensures)
+    (sym (test .ensures) ∙ not-of-false (test .result) (d .before .before .if1 .left)) (c .before .before .put-sent .ensures)
 
 pub put-isomorphism-spec : {M : Type 1} → statement M
 put-isomorphism-spec =
     tie.close
     (tie.spec
-    points-room-requires
-    points-room-requires-2
-    code-room-requires
-    code-room-requires-2
-    array-borrow-prefix-a
-    slice-aggregate-write-code
-    slice-aggregate-write-code-2
-    write-code-requires
-    array-borrow-prefix-b
-    slice-aggregate-write-code-3
-    slice-aggregate-write-code-4
-    write-code-requires-2
-    array-share-prefix-code
-    slice-aggregate-compare
-    array-share-prefix-other
-    slice-aggregate-compare-2
-    compare-requires
-    enum-told
-    enum-told-2
-    enum-told-3
-    array-share-prefix-a
+    (λ c κs. search needs)
+    (λ c κs. search needs)
+    same-system-requires
+    returns
+    array-share-prefix-labels
     slice-aggregate-put-sent
-    array-share-prefix-b
+    array-share-prefix-others
     slice-aggregate-put-sent-2
     put-sent-requires
-    returns
-    returns-2
-    same-length
-    returns-3)
+    (λ c. search needs)
+    returns-2)
