@@ -15,6 +15,7 @@ use Rattle.patterns.specs.Reading.{done, fault}
 use Rattle.patterns.specs.Entry.{checkedTable, table-refused, counted, CensusReplied}
 use Rattle.patterns.specs.declared.reply.Row.{Row as Entry}
 use Rattle.census.specs.declared.Rows.{Rows}
+use Rattle.census.specs.declared.Measured.{Measured}
 use Rattle.census.specs.Rows.{rowsIn, CensusOf}
 use Rattle.patterns.specs.Replies.{rowOf}
 use Rattle.census.proofs.CensusRows.{rows-length}
@@ -32,14 +33,17 @@ decided-refused f c e places r =
       replied = λ before l. rw (r .nothing, r .reply) (record { found = fault c; isCensus = table-refused e; reply = refl; output = refl });
     }
 
-module _ (f : List ℕ) (e : checkedTable f ≡ done f) {rows : Rows} (w : CensusOf f rows) (lengths-all : length (rows .lengths) ≡ 19)
-    (counts-all : length (rows .counts) ≡ 19) (places : ℕ) where
+module _ (f : List ℕ) (e : checkedTable f ≡ done f) (m : Measured) (w : CensusOf f m) (lengths-all : length (m .rows .lengths) ≡ 19)
+    (counts-all : length (m .rows .counts) ≡ 19) (places : ℕ) where
+  abbrev rows : Rows
+  rows = m .rows
+
   rows-many : length (rowsIn rows) ≡ rows .rows
   rows-many =
       let a = take (rows .rows) (rows .lengths) in
       let b = take (rows .rows) (rows .counts) in
-      let l = length-take-le (rows .rows) (rows .lengths) (omega (arith, w .few)) in
-      rows-length a b (l ∙ sym (length-take-le (rows .rows) (rows .counts) (omega (arith, w .few)))) ∙ l
+      let l = length-take-le (rows .rows) (rows .lengths) (omega (arith, w .rows-are .few)) in
+      rows-length a b (l ∙ sym (length-take-le (rows .rows) (rows .counts) (omega (arith, w .rows-are .few)))) ∙ l
 
   -- the list is too short
   pub decided-short : places < rows .rows → {d : Decision} → Refuses Room d → Decided f places d
@@ -49,20 +53,20 @@ module _ (f : List ℕ) (e : checkedTable f ≡ done f) {rows : Rows} (w : Censu
         fits = omega (arith, r .nothing);
         replied = λ before l.
             let test : leb (length (rowsIn rows)) (length before) ≡ false = lt-leb (length (rowsIn rows)) (length before) (omega (arith, rows-many)) in
-            rw (r .nothing, r .reply) (record { found = done (rowsIn rows); isCensus = counted e (w .isCensus); reply = rw test; output = rw test });
+            rw (r .nothing, r .reply) (record { found = done (rowsIn rows); isCensus = counted e (w .rows-are .isCensus); reply = rw test; output = rw test });
       }
 
   -- all rows are written
-  pub decided-fits : rows .rows ≤ places → Decided f places (record { rows = rows; filled = rows .rows; reply = Counted (rows .rows) (rows .height) (rows .longest) })
+  pub decided-fits : rows .rows ≤ places → Decided f places (record { rows = rows; filled = rows .rows; reply = Counted (rows .rows) (m .height) (m .longest) })
   decided-fits h =
       record {
-        few = w .few;
+        few = w .rows-are .few;
         fits = h;
         replied = λ before l.
             let test : leb (length (rowsIn rows)) (length before) ≡ true = le-leb (length (rowsIn rows)) (length before) (omega (arith, rows-many)) in
             record {
               found = done (rowsIn rows);
-              isCensus = counted e (w .isCensus);
+              isCensus = counted e (w .rows-are .isCensus);
               reply = rw test (rw (rows-many, ← w .height-is, ← w .longest-is));
               output = rw test (ap (λ j. rowsIn rows ++ drop j before) (sym rows-many));
             };

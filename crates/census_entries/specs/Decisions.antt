@@ -7,7 +7,7 @@ use Rattle.patterns.specs.declared.Refusal.{Refusal}
 use Rattle.patterns.specs.Census.{Row}
 use Rattle.patterns.specs.Reading.{done}
 use Rattle.patterns.specs.Entry.{checkedTable, CensusReplied}
-use Rattle.census.specs.declared.Rows.{Rows}
+use Rattle.census.specs.declared.Measured.{Measured}
 use Rattle.patterns.specs.Census.{rowsOf}
 use Rattle.census.specs.Rows.{CensusOf}
 use Rattle.census_entries.specs.declared.Decision.{Decision}
@@ -30,5 +30,5 @@ pub record Decided (f : List ℕ) (places : ℕ) (d : Decision) : Type 0 where
   pub replied : (before : List Row) → length before ≡ places → CensusReplied f before (censusAnswer (d .reply)) (rowsFilled d ++ drop (d .filled) before)
 
 -- the same, for the rows of any table with this census
-abbrev pub RowsDecided : Rows → ℕ → Decision → Type 0
-RowsDecided rows places d = (f : List ℕ) → checkedTable f ≡ done f → CensusOf f rows → Decided f places d
+abbrev pub RowsDecided : Measured → ℕ → Decision → Type 0
+RowsDecided taken places d = (f : List ℕ) → checkedTable f ≡ done f → CensusOf f taken → Decided f places d

@@ -1,4 +1,5 @@
 // The census of a map, in a lent list of rows or in two lent columns.
+use census::Measured;
 use census::Rows;
 use census::census as census_of;
 use census::fill;
@@ -34,8 +35,6 @@ fn refuse(cause: Refusal) -> Decision
         lengths: [0u8; 19],
         counts: [0u8; 19],
         rows: 0,
-        height: 0,
-        longest: 0,
     };
     Decision {
         rows,
@@ -45,14 +44,15 @@ fn refuse(cause: Refusal) -> Decision
 }
 
 // All rows where they have room in `places` places, and a refusal where they have not.
-fn decide_rows(rows: Rows, places: usize) -> Decision
-    ensures { λ d. ⌜ RowsDecided rows places d ⌝ }
+fn decide_rows(taken: Measured, places: usize) -> Decision
+    ensures { λ d. ⌜ RowsDecided taken places d ⌝ }
 {
+    let rows = taken.rows;
     let n = rows.rows;
     if places < n {
         return refuse(Refusal::Room);
     }
-    let reply = Census::Counted(n, rows.height, rows.longest);
+    let reply = Census::Counted(n, taken.height, taken.longest);
     Decision {
         rows,
         filled: n,

@@ -16,11 +16,7 @@ use Rattle.patterns.specs.Calls.{Call, Calls, fresh, Enumeration}
 use Rattle.form_theory.proofs.Calls.{enumeration, calls-exist}
 use Rattle.form_theory.proofs.WrittenBack.{written-equal}
 use Rattle.map_theory.proofs.MapOf.{length-mapOf, mapOf-table}
-use Rattle.map_theory.proofs.Theorems.{table-canonical, table-weight, system-of-map, renaming-system, system-same-isomorphic}
-use Rattle.form_theory.proofs.Calls.{enumeration, calls-exist}
-use Rattle.form_theory.proofs.WrittenBack.{written-equal}
-use Rattle.map_theory.proofs.MapOf.{length-mapOf, mapOf-table}
-use Rattle.map_theory.proofs.Theorems.{table-canonical, table-weight, system-of-map, renaming-system, system-same-isomorphic}
+use Rattle.map_theory.proofs.Theorems.{table-canonical, table-weight, system-of-map, isomorphic-same-system, same-system-isomorphic}
 use Rattle.patterns.specs.Calls.{Map, codeOf, Isomorphic}
 
 module _ {n : ℕ} (small : n ≤ 200) where
@@ -49,11 +45,11 @@ module _ {n : ℕ} (small : n ≤ 200) where
 
   one-code : (f g : Map n) → Isomorphic f g → codeOf f ≡ codeOf g
   one-code f g i =
-      code-written f ∙ ap written (renaming-system n (f .table) (g .table) (i .0) (f .points) (f .inside) (g .points) (i .1)) ∙ sym (code-written g)
+      code-written f ∙ ap written (isomorphic-same-system n (f .table) (g .table) (i .0) (f .points) (f .inside) (g .points) (i .1)) ∙ sym (code-written g)
 
   code-isomorphic : (f g : Map n) → codeOf f ≡ codeOf g → Isomorphic f g
   code-isomorphic f g e =
-      system-same-isomorphic n (f .table) (g .table) (f .points) (f .inside) (g .points) (g .inside)
+      same-system-isomorphic n (f .table) (g .table) (f .points) (f .inside) (g .points) (g .inside)
       (written-equal (systemOfTable (f .table)) (systemOfTable (g .table)) (map-canonical f) (map-canonical g)
       (omega (arith, map-weight f)) (omega (arith, map-weight g))
       (sym (code-written f) ∙ e ∙ code-written g))

@@ -22,11 +22,7 @@ use Rattle.patterns.specs.Entry.{Outcome, gives, ends, lacks, fails, outcome, a
 use Rattle.form_theory.proofs.Bounds.{allBelow}
 use Rattle.form_theory.proofs.WrittenBack.{accepted-is, written-equal}
 use Rattle.map_theory.proofs.MapOf.{length-mapOf, mapOf-table}
-use Rattle.map_theory.proofs.Theorems.{table-canonical, table-weight, system-of-map, renaming-system, system-same-isomorphic}
-use Rattle.form_theory.proofs.Bounds.{allBelow}
-use Rattle.form_theory.proofs.WrittenBack.{accepted-is, written-equal}
-use Rattle.map_theory.proofs.MapOf.{length-mapOf, mapOf-table}
-use Rattle.map_theory.proofs.Theorems.{table-canonical, table-weight, system-of-map, renaming-system, system-same-isomorphic}
+use Rattle.map_theory.proofs.Theorems.{table-canonical, table-weight, system-of-map, isomorphic-same-system, same-system-isomorphic}
 use Rattle.tables.specs.Tables.{Table}
 use Rattle.tables.proofs.Tables.{checked-table}
 
@@ -135,7 +131,7 @@ module _ (f g : List ℕ) (c : checkedTable f ≡ done f) (d : checkedTable g �
           (λ t. let y : lacking ≡ refused 8 = k ∙ rw t in let z : _≡_ {A = ℕ} 0 1 = cc in omega arith)
       of o (lengths-differ q u h) k = h (sym first-weight ∙ ap weight (same-systems e) ∙ second-weight)
       of o (not-found q u l h) k =
-          let i = system-same-isomorphic (length f) f g refl (first-table .table) (sym l) (second-table .table) (same-systems e) in
+          let i = same-system-isomorphic (length f) f g refl (first-table .table) (sym l) (second-table .table) (same-systems e) in
           h (i .0) (i .1)
 
   -- Two maps with different codes: the reply is "none".
@@ -145,6 +141,6 @@ module _ (f g : List ℕ) (c : checkedTable f ≡ done f) (d : checkedTable g �
       of : (o : Outcome ℕ) → IsomorphismFound f g o → a ≡ answered o before → a ≡ lacking
       of o (first-refused q) k = absurd (first-fails q)
       of o (second-refused q u) k = absurd (second-fails u)
-      of o (found {r = r} q u l i) k = absurd (h (same-codes (renaming-system (length f) f g r refl (first-table .table) (sym l) i)))
+      of o (found {r = r} q u l i) k = absurd (h (same-codes (isomorphic-same-system (length f) f g r refl (first-table .table) (sym l) i)))
       of o (lengths-differ q u n) k = k
       of o (not-found q u l n) k = k

@@ -1,4 +1,4 @@
--- `engine::census` meets its contract: a walk of its MIR, by hand, since no plan covers a slice of structs.
+-- `census_entries::census` meets its contract: a walk of its MIR, by hand, since no plan covers a slice of structs.
 -- `decide` and `fill` are known by their contracts. The lent list is passed on to `fill` for good, and what `fill` says of its last list is what the entry says.
 use mathlib.Core.Path.{_≡_, refl, ap, subst}
 use mathlib.Core.List.{List, [], _∷_, _++_, map}
@@ -57,9 +57,9 @@ use Rattle.patterns.proofs.reply.Census as R
 use Rattle.patterns.proofs.reply.Census.Laws as R′
 use Rattle.census_entries.proofs.decide as decide
 use Rattle.census_entries.proofs.decide.Symbol as decide-def
-use Rattle.census_entries.proofs.decide.Symbol.{name as #engine·decide}
+use Rattle.census_entries.proofs.decide.Symbol.{name as #census_entries·decide}
 use Rattle.census_entries.proofs.decide.Met as decide-thm
-use Rattle.engine.proofs.census.Key.{name as #engine·census}
+use Rattle.census_entries.proofs.census.Key.{name as #census_entries·census}
 use Rattle.census_entries.proofs.census as census
 use Rattle.census_entries.proofs.census.Statement as stated
 use Rattle.census_entries.proofs.census.Code as code
@@ -167,7 +167,7 @@ module _ {M : Type 1} (𝓤 : URA M) (H : Heap 𝓤) (A : Atoms 𝓤) (W : Given
         nothing ! $ move ! (2 ∷ 0 ∷ []) $ fjoin ! $ move ! (1 ∷ 0 ∷ []) $ fjoin ! $ frame ! $
         owned ! R.the-row (Is R.the-row) (EL.makes R.the-type R′.the-plain 𝓤 H A) (d .reply) _ reply-is $ done !
 
-  module _ (C : Calls 𝓤 H) (Λ : Loops 𝓤 H) (fm : FmC 𝓤 H (W .laws) C) (known-decide : Triple 𝓤 (C #engine·decide) (Decide 𝓤 H A mem run)) (known-fill : Triple 𝓤 (C #census·fill) (Fill 𝓤 H A mem run)) where
+  module _ (C : Calls 𝓤 H) (Λ : Loops 𝓤 H) (fm : FmC 𝓤 H (W .laws) C) (known-decide : Triple 𝓤 (C #census_entries·decide) (Decide 𝓤 H A mem run)) (known-fill : Triple 𝓤 (C #census·fill) (Fill 𝓤 H A mem run)) where
     walk : Is (ShrSlice (named 0) κ₀ u8) s (v ∷ []) → ent 𝓤 (onEntry 𝓤 H A census.signature (κ₀, (κ₁, tt)) (q₀, (q₁, tt)) a vals) (WpFn 𝓤 H C Λ code.function (v ∷ u ∷ []) Post)
     walk p =
         qed W ((‵ (flft κ₀ q₀) ⊛ (‵ (flft κ₁ q₁) ⊛ ‵ ftrue)) ∷ ‵ (owns (ShrSlice (named 0) κ₀ u8 ∷ MutSlice (named 1) κ₁ T.the-row ∷ []) a vals) ∷ []) ∵ enter ! C Λ code.function (v ∷ u ∷ []) _ $
@@ -203,7 +203,7 @@ module _ {M : Type 1} (𝓤 : URA M) (H : Heap 𝓤) (A : Atoms 𝓤) (W : Given
         keep ! (4 ∷ 0 ∷ 5 ∷ 1 ∷ []) $ by ! (exits d (known d w is) decided (zs .0) same e)))))))))))))))))))
 
 module _ {M : Type 1} (𝓤 : URA M) (H : Heap 𝓤) (A : Atoms 𝓤) (W : Given 𝓤 H A) (mem : Memory → SProp 𝓤) (run : Routine → Fun 𝓤) where
-  census-walks : (C : Calls 𝓤 H) (Λ : Loops 𝓤 H) → FmC 𝓤 H (W .laws) C → Triple 𝓤 (C #engine·decide) (Decide 𝓤 H A mem run) → Triple 𝓤 (C #census·fill) (Fill 𝓤 H A mem run)
+  census-walks : (C : Calls 𝓤 H) (Λ : Loops 𝓤 H) → FmC 𝓤 H (W .laws) C → Triple 𝓤 (C #census_entries·decide) (Decide 𝓤 H A mem run) → Triple 𝓤 (C #census·fill) (Fill 𝓤 H A mem run)
       → Walks 𝓤 H A census.ended stayed (WpFn 𝓤 H C Λ code.function) (census.clauses 𝓤 H A mem run)
   census-walks C Λ fm known-decide known-fill =
       walked 𝓤 H A census.ended stayed (census.clauses 𝓤 H A mem run) (WpFn 𝓤 H C Λ code.function)
@@ -212,7 +212,7 @@ module _ {M : Type 1} (𝓤 : URA M) (H : Heap 𝓤) (A : Atoms 𝓤) (W : Given
       (walk 𝓤 H A W mem run (κs .0) (κs .1 .0) (qs .0) (qs .1 .0) (a .0) (a .1 .0 .ptr .0) (a .1 .0 .ptr .1) (a .1 .0 .name) (a .1 .0 .now) (are .1 .0 .0 .1) C Λ fm known-decide known-fill (are .0)))
 
 census-meets : {M : Type 1} (𝓤 : URA M) (H : Heap 𝓤) (A : Atoms 𝓤) → Given 𝓤 H A → (mem : Memory → SProp 𝓤) (run : Routine → Fun 𝓤) (𝓣 : Tables 𝓤 H)
-    → Triple 𝓤 (𝓣 .C #engine·decide) (Decide 𝓤 H A mem run) → Triple 𝓤 (𝓣 .C #census·fill) (Fill 𝓤 H A mem run)
+    → Triple 𝓤 (𝓣 .C #census_entries·decide) (Decide 𝓤 H A mem run) → Triple 𝓤 (𝓣 .C #census·fill) (Fill 𝓤 H A mem run)
     → Meets 𝓤 H A census.signature (WpFn 𝓤 H (𝓣 .C) (𝓣 .Λ) code.function) (census.spec 𝓤 H A mem run)
 census-meets 𝓤 H A W mem run 𝓣 known-decide known-fill =
     walk-meets 𝓤 H A census.ended stayed W
@@ -224,7 +224,7 @@ pub census-spec : {M : Type 1} → stated.statement M
 unfolding code.routine tablesOf
 census-spec 𝓤 H 𝓜 𝓖 𝓡 =
     entered 𝓤 H (tripleOf 𝓤 H (𝓖 .A) census.signature (census.spec 𝓤 H (𝓖 .A) (𝓜 .mem) (𝓡 .run)))
-    (tables 𝓤 H 𝓜 𝓡 code.env .C) (tables 𝓤 H 𝓜 𝓡 code.env .Λ) #engine·census code.function (code.unfolded 𝓤 H 𝓜 𝓡)
+    (tables 𝓤 H 𝓜 𝓡 code.env .C) (tables 𝓤 H 𝓜 𝓡 code.env .Λ) #census_entries·census code.function (code.unfolded 𝓤 H 𝓜 𝓡)
     (census-meets 𝓤 H (𝓖 .A) (givenOf 𝓤 H 𝓜 𝓖) (𝓜 .mem) (𝓡 .run) (tablesOf 𝓤 H 𝓜 (tables 𝓤 H 𝓜 𝓡 code.env))
-    (cited 𝓤 H (Decide 𝓤 H (𝓖 .A) (𝓜 .mem) (𝓡 .run)) 𝓜 𝓡 code.env #engine·decide decide-def.routine code.calls-engine·decide (decide-thm.met 𝓤 H 𝓜 𝓖 𝓡))
+    (cited 𝓤 H (Decide 𝓤 H (𝓖 .A) (𝓜 .mem) (𝓡 .run)) 𝓜 𝓡 code.env #census_entries·decide decide-def.routine code.calls-census-entries·decide (decide-thm.met 𝓤 H 𝓜 𝓖 𝓡))
     (cited 𝓤 H (Fill 𝓤 H (𝓖 .A) (𝓜 .mem) (𝓡 .run)) 𝓜 𝓡 code.env #census·fill fill-def.routine code.calls-census·fill (fill-thm.met 𝓤 H 𝓜 𝓖 𝓡)))

@@ -2,7 +2,7 @@ use denote.Ref.{now}
 use mathlib.Core.Path.{subst}
 use borrow.Author.Needs.{needs}
 use Rattle.census_entries.specs.Decisions.{Decided}
-use Rattle.census.proofs.Rows.{columns-fit, columns-replied}
+use Rattle.census_entries.proofs.Columns.{columns-fit, columns-replied}
 use Rattle.census_entries.proofs.census_columns.Statement.{statement}
 use Rattle.census_entries.proofs.census_columns.Tie as tie
 

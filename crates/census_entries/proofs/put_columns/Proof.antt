@@ -1,7 +1,7 @@
 use denote.Ref.{now}
 use native.Mathlib.Omega.{arith}
 use borrow.Author.Needs.{needs}
-use Rattle.census.proofs.Rows.{Filling, filling-start, lengths-same, counts-same, filling-next, filling-end}
+use Rattle.census_entries.proofs.Columns.{Filling, filling-start, lengths-same, counts-same, filling-next, filling-end}
 use Prim.Native.Nat.{_-_}
 use Rattle.census_entries.proofs.put_columns.Statement.{statement}
 use Rattle.census_entries.proofs.put_columns.Tie as tie

@@ -64,10 +64,10 @@ use Rattle.patterns.specs.declared.reply.Census.{Census}
 use Rattle.patterns.specs.Replies.{censusAnswer}
 use Rattle.patterns.proofs.reply.Census as R
 use Rattle.patterns.proofs.reply.Census.Laws as R′
-use Rattle.engine.proofs.census as census
-use Rattle.engine.proofs.census.Symbol as census-def
-use Rattle.engine.proofs.census.Symbol.{name as #engine·census}
-use Rattle.engine.proofs.census.Met as census-thm
+use Rattle.census_entries.proofs.census as census
+use Rattle.census_entries.proofs.census.Symbol as census-def
+use Rattle.census_entries.proofs.census.Symbol.{name as #census_entries·census}
+use Rattle.census_entries.proofs.census.Met as census-thm
 use Rattle.tally.specs.declared.Tally.{Tally}
 use Rattle.tally.proofs.Tally as D
 use Rattle.tally.proofs.Tally.Laws as D′
@@ -232,7 +232,7 @@ module _ {M : Type 1} (𝓤 : URA M) (H : Heap 𝓤) (A : Atoms 𝓤) (W : Given
     back : (zs : List Entry) → length zs ≡ length (take n xs) → length (zs ++ drop n xs) ≡ 24
     back zs e = length-append zs (drop n xs) ∙ omega (arith, e, many, length-drop n xs, xs-is)
 
-  module _ (C : Calls 𝓤 H) (Λ : Loops 𝓤 H) (fm : FmC 𝓤 H (W .laws) C) (known-blank : Triple 𝓤 (C #tally·blank) (Blank 𝓤 H A mem′ run)) (known-count : Triple 𝓤 (C #engine·census) (Count 𝓤 H A mem′ run)) where
+  module _ (C : Calls 𝓤 H) (Λ : Loops 𝓤 H) (fm : FmC 𝓤 H (W .laws) C) (known-blank : Triple 𝓤 (C #tally·blank) (Blank 𝓤 H A mem′ run)) (known-count : Triple 𝓤 (C #census_entries·census) (Count 𝓤 H A mem′ run)) where
     walk : Is (ShrSlice (named 0) κ u8) s (v₁ ∷ []) → ent 𝓤 (onEntry 𝓤 H A tally.signature (κ, tt) (q, tt) a vals) (WpFn 𝓤 H C Λ code.function (v₁ ∷ vint w64 n ∷ vint w8 c ∷ []) Post)
     walk p =
         qed W ((‵ (flft κ q) ⊛ ‵ ftrue) ∷ ‵ (owns (ShrSlice (named 0) κ u8 ∷ usize ∷ u8 ∷ []) a vals) ∷ []) ∵ enter ! C Λ code.function (v₁ ∷ vint w64 n ∷ vint w8 c ∷ []) _ $
@@ -286,7 +286,7 @@ module _ {M : Type 1} (𝓤 : URA M) (H : Heap 𝓤) (A : Atoms 𝓤) (W : Given
         keep ! (1 ∷ 2 ∷ []) $ by ! (exits (told (zs .1 .0 ++ drop n xs) r) (told-is (zs .1 .0 ++ drop n xs) r all-is (reply-is r w r-is)))))))))))))))))))))))
 
 module _ {M : Type 1} (𝓤 : URA M) (H : Heap 𝓤) (A : Atoms 𝓤) (W : Given 𝓤 H A) (mem′ : Memory → SProp 𝓤) (run : Routine → Fun 𝓤) where
-  census-of-walks : (C : Calls 𝓤 H) (Λ : Loops 𝓤 H) → FmC 𝓤 H (W .laws) C → Triple 𝓤 (C #tally·blank) (Blank 𝓤 H A mem′ run) → Triple 𝓤 (C #engine·census) (Count 𝓤 H A mem′ run)
+  census-of-walks : (C : Calls 𝓤 H) (Λ : Loops 𝓤 H) → FmC 𝓤 H (W .laws) C → Triple 𝓤 (C #tally·blank) (Blank 𝓤 H A mem′ run) → Triple 𝓤 (C #census_entries·census) (Count 𝓤 H A mem′ run)
       → Walks 𝓤 H A tally.ended stayed (WpFn 𝓤 H C Λ code.function) (tally.clauses 𝓤 H A mem′ run)
   census-of-walks C Λ fm known-blank known-count =
       walked 𝓤 H A tally.ended stayed (tally.clauses 𝓤 H A mem′ run) (WpFn 𝓤 H C Λ code.function)
@@ -295,7 +295,7 @@ module _ {M : Type 1} (𝓤 : URA M) (H : Heap 𝓤) (A : Atoms 𝓤) (W : Given
       walk 𝓤 H A W mem′ run (κs .0) (qs .0) (a .0) (a .1 .0) (a .1 .1 .0) (are .1 .0 .1) (are .1 .1 .0 .1) few C Λ fm known-blank known-count (are .0)))
 
 census-of-meets : {M : Type 1} (𝓤 : URA M) (H : Heap 𝓤) (A : Atoms 𝓤) → Given 𝓤 H A → (mem′ : Memory → SProp 𝓤) (run : Routine → Fun 𝓤) (𝓣 : Tables 𝓤 H)
-    → Triple 𝓤 (𝓣 .C #tally·blank) (Blank 𝓤 H A mem′ run) → Triple 𝓤 (𝓣 .C #engine·census) (Count 𝓤 H A mem′ run)
+    → Triple 𝓤 (𝓣 .C #tally·blank) (Blank 𝓤 H A mem′ run) → Triple 𝓤 (𝓣 .C #census_entries·census) (Count 𝓤 H A mem′ run)
     → Meets 𝓤 H A tally.signature (WpFn 𝓤 H (𝓣 .C) (𝓣 .Λ) code.function) (tally.spec 𝓤 H A mem′ run)
 census-of-meets 𝓤 H A W mem′ run 𝓣 known-blank known-count =
     walk-meets 𝓤 H A tally.ended stayed W
@@ -310,4 +310,4 @@ census-of-spec 𝓤 H 𝓜 𝓖 𝓡 =
     (tables 𝓤 H 𝓜 𝓡 code.env .C) (tables 𝓤 H 𝓜 𝓡 code.env .Λ) #tally·census-of code.function (code.unfolded 𝓤 H 𝓜 𝓡)
     (census-of-meets 𝓤 H (𝓖 .A) (givenOf 𝓤 H 𝓜 𝓖) (𝓜 .mem) (𝓡 .run) (tablesOf 𝓤 H 𝓜 (tables 𝓤 H 𝓜 𝓡 code.env))
     (cited 𝓤 H (Blank 𝓤 H (𝓖 .A) (𝓜 .mem) (𝓡 .run)) 𝓜 𝓡 code.env #tally·blank blank-def.routine code.calls-tally·blank (blank-thm.met 𝓤 H 𝓜 𝓖 𝓡))
-    (cited 𝓤 H (Count 𝓤 H (𝓖 .A) (𝓜 .mem) (𝓡 .run)) 𝓜 𝓡 code.env #engine·census census-def.routine code.calls-engine·census (census-thm.met 𝓤 H 𝓜 𝓖 𝓡)))
+    (cited 𝓤 H (Count 𝓤 H (𝓖 .A) (𝓜 .mem) (𝓡 .run)) 𝓜 𝓡 code.env #census_entries·census census-def.routine code.calls-census-entries·census (census-thm.met 𝓤 H 𝓜 𝓖 𝓡)))
