@@ -1,9 +1,9 @@
 // The written code of a system in memory [document 01, "The written code"]: how long it is, where a component stands in it, and its bytes, at a place with
 // room for them or refused for want of room.
-use trees::count;
 use patterns::Refusal;
 use patterns::Reply;
 use patterns::Stretch;
+use trees::count;
 use written::put_number;
 ghost use denote.Ref.{now};
 ghost use mathlib.Core.Path.{_≡_};
