@@ -188,7 +188,3 @@ module _ {s : List ℕ} {h : ℕ} {c : Component} (v : Led c h) (e : s ≡ flat 
           ap (λ n. n + h) (g ∙ ap length (v .trees))
               ∙ sym (ap (λ d. place compareComponent d (candidates (parent d))) (v .trees) ∙ key-right h t u r f),
         )
-
--- a list copied over one of the same length
-pub copied : (s out : List ℕ) → length out ≡ length s → take (length s) s ++ drop (length s) out ≡ s
-copied s out h = ap₂ _++_ (take-length s) (drop-of-length-le out {i = length s} (omega arith)) ∙ append-nil s

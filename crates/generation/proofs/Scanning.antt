@@ -14,7 +14,7 @@ use Rattle.patterns.proofs.Trees.{flat-injective}
 use Rattle.trees.specs.Beginnings.{leadingPoints}
 use Rattle.component_theory.proofs.ChildPlaces.{childAt, childFrom, childFrom-step, childFrom-end, childFrom-lefts, childFrom-past, length-candidates}
 use Rattle.component_theory.proofs.Generation.{valid-positive}
-use Rattle.generation.specs.HeldNodes.{Node, HeldNeighbours, HeldScan, Gave, Passed}
+use Rattle.generation.specs.HeldNodes.{Node, HeldCandidate, HeldScan, Gave, Passed}
 
 pub gave-path : {o q : Option Component} → o ≡ q → (r : Bool) (x : List ℕ) → Gave o r x → Gave q r x
 gave-path e r x g = subst (λ k. Gave k r x) e g
@@ -55,17 +55,12 @@ pub scan-start : {s out : List ℕ} {k : ℕ} → Scanned s k k out out
 scan-start = record { room = refl; passed = λ c e. refl }
 
 module _ {s : List ℕ} {n h : ℕ} {out : List ℕ} (p : HeldScan s n h out) where
-  pub pair-at : (i : ℕ) (x : List ℕ) → length x ≡ length out → i < n → i ≤ h → HeldNeighbours s i x
+  pub pair-at : (i : ℕ) (x : List ℕ) → length x ≡ length out → i < n → i ≤ h → HeldCandidate s i x
   pair-at i x e k l =
       let q = pair-after-points (p .trees) i (omega (arith, p .leads)) (omega (arith, p .counted)) in
       record {
-        this = q .0;
-        that = q .1;
-        after = q .2;
-        is = p .is ∙ ap flat (q .3);
+        pair = record { this = q .0; that = q .1; after = q .2; is = p .is ∙ ap flat (q .3); small = p .small; room = e ∙ p .room };
         valid = subst (λ c. validComponent c ≡ true) (q .3) (p .valid);
-        small = p .small;
-        room = e ∙ p .room;
       }
 
   trees-are : (c : Component) → s ≡ flat c → p .trees ≡ c

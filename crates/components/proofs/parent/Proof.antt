@@ -1,7 +1,7 @@
 use denote.Ref.{now}
 use mathlib.Core.Path.{_∙_}
 use borrow.Author.Needs.{needs}
-use Rattle.components.proofs.Climbing.{copied}
+use Rattle.trees.proofs.Merging.{copied}
 use Rattle.components.proofs.parent.Statement.{statement}
 use Rattle.components.proofs.parent.Tie as tie
 

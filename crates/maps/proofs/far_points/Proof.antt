@@ -5,7 +5,7 @@ use native.Mathlib.Omega.{arith}
 use lib.ListN.{length, length-map}
 use Rattle.patterns.specs.Table.{image}
 use borrow.Author.Needs.{needs}
-use Rattle.components.proofs.Climbing.{copied}
+use Rattle.trees.proofs.Merging.{copied}
 use Rattle.maps.proofs.Marking.{Steps, steps-start, steps-inside, steps-double, steps-end}
 use Rattle.maps.proofs.far_points.Statement.{statement}
 use Rattle.maps.proofs.far_points.Tie as tie

@@ -2,7 +2,7 @@ use denote.Ref.{now}
 use mathlib.Core.Path.{sym, ap, _∙_}
 use borrow.Author.Needs.{needs}
 use lib.ListN.{length}
-use Rattle.components.proofs.Climbing.{copied}
+use Rattle.trees.proofs.Merging.{copied}
 use Rattle.paths.proofs.path_of.Statement.{statement}
 use Rattle.paths.proofs.path_of.Tie as tie
 

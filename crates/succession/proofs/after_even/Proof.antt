@@ -1,7 +1,7 @@
 use mathlib.Core.Path.{sym, _∙_}
 use borrow.Author.Needs.{needs}
 use Rattle.succession.proofs.Following.{even-root, even-next, even-last}
-use Rattle.components.proofs.Climbing.{copied}
+use Rattle.trees.proofs.Merging.{copied}
 use Rattle.succession.proofs.after_even.Statement.{statement}
 use Rattle.succession.proofs.after_even.Tie as tie
 

@@ -4,7 +4,7 @@ use borrow.Author.Needs.{needs}
 use Rattle.lists.proofs.Tests.{not-of-true, not-of-false}
 use Rattle.patterns.specs.Component.{flat}
 use Rattle.succession.proofs.Following.{opening-child, opening-self}
-use Rattle.components.proofs.Climbing.{copied}
+use Rattle.trees.proofs.Merging.{copied}
 use Rattle.succession.proofs.opening.Statement.{statement}
 use Rattle.succession.proofs.opening.Tie as tie
 

@@ -3,7 +3,7 @@ use mathlib.Core.Path.{_≡_, refl, ap, ap₂, sym, _∙_}
 use mathlib.Core.List.{List, _∷_, _++_, append-assoc, append-nil}
 use Prim.Native.Nat.{ℕ, _+_, _-_, _≤_, _<_, compare}
 use native.Mathlib.Omega.{arith}
-use lib.ListN.{length, getD, set, take, drop, replicate, length-append, length-drop, length-replicate}
+use lib.ListN.{length, getD, set, take, drop, replicate, length-append, length-drop, length-replicate, drop-of-length-le}
 use lib.Seq.{take-at, drop-at, getD-at, set-at, drop-append-add, drop-append-le, take-length, drop-length}
 use Rattle.lists.specs.Order.{lex, atMost}
 use Rattle.lists.specs.Blocks.{exchanged}
@@ -11,9 +11,9 @@ use Rattle.lists.proofs.Blocks.{exchanged-parts}
 use Rattle.patterns.specs.Tree.{Tree, point, merge, size, below, code, compareTree, lastAtMost}
 use Rattle.patterns.specs.Component.{Component, flat}
 use Rattle.patterns.proofs.Trees.{size-positive, length-below, length-code}
 use Rattle.trees.specs.Beginnings.{lastStart}
 use Rattle.trees.proofs.Walks.{flat-points, lastStart-within}
-use Rattle.generation.specs.HeldNodes.{HeldNeighbours}
+use Rattle.trees.specs.HeldNeighbours.{HeldNeighbours}
 
 module _ (s : List ℕ) (i : ℕ) (t u : Tree) (c : Component) (is : s ≡ flat (replicate i point ++ (t ∷ u ∷ c))) where
   abbrev front : List ℕ
@@ -127,3 +127,7 @@ reach {s} {i} p =
     let m = that-size s i (p .this) (p .that) (p .after) (p .is) in
     let f = pair-fits s i (p .this) (p .that) (p .after) (p .is) in
     record { this-some = omega arith; that-some = omega arith; within = omega arith; small = p .small; room = p .room }
+
+-- a list copied over one of the same length
+pub copied : (s out : List ℕ) → length out ≡ length s → take (length s) s ++ drop (length s) out ≡ s
+copied s out h = ap₂ _++_ (take-length s) (drop-of-length-le out {i = length s} (omega arith)) ∙ append-nil s
