@@ -2,11 +2,11 @@
 -- first number leaves its two parts one after the other, and they are exchanged where the second is the lesser.
 use mathlib.Core.Path.{_≡_, refl, ap, ap₂, sym, _∙_}
 use mathlib.Core.Bool.{true, false}
-use mathlib.Core.List.{List, [], _∷_, _++_, append-assoc, append-nil}
+use mathlib.Core.List.{List, [], _∷_, _++_, append-assoc}
 use Prim.Native.Nat.{ℕ, _+_, _-_, _≤_, _<_, compare}
 use native.Mathlib.Omega.{arith}
-use lib.ListN.{length, getD, set, take, drop, replicate, length-append, length-replicate, drop-of-length-le}
-use lib.Seq.{take-at, drop-at, getD-at, set-at, take-length}
+use lib.ListN.{length, getD, set, take, drop, replicate, length-append, length-replicate}
+use lib.Seq.{take-at, drop-at, getD-at, set-at}
 use Rattle.lists.specs.Order.{lex, atMost}
 use Rattle.lists.specs.Select.{place}
 use Rattle.lists.specs.Blocks.{exchanged}

@@ -29,13 +29,10 @@ pub record HeldCandidate (s : List ℕ) (i : ℕ) (out : List ℕ) : Type 0 wher
 
 -- a valid component of at most 200 points with its numbers of pairs of neighbours and of leading points, and a buffer of as many numbers
 pub record HeldScan (s : List ℕ) (pairs lead : ℕ) (out : List ℕ) : Type 0 where
-  pub trees : Component
-  pub is : s ≡ flat trees
-  pub valid : validComponent trees ≡ true
-  pub small : length s ≤ 200
+  pub node : Node s
   pub room : AsLong s out
-  pub counted : length trees ≡ suc pairs
-  pub leads : leadingPoints trees ≡ lead
+  pub counted : length (node .trees) ≡ suc pairs
+  pub leads : leadingPoints (node .trees) ≡ lead
 
 -- a component, if there is one, was written to a buffer, and r says whether there is
 abbrev pub Gave : Option Component → Bool → List ℕ → Type 0

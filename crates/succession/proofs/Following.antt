@@ -9,13 +9,12 @@ use native.Mathlib.Numerals.{add-one}
 use lib.Dec.{eqb}
 use lib.ListN.{length}
 use borrow.Author.Tests.{eq-eqb, ne-eqb}
-use Rattle.lists.specs.Select.{next}
 use Rattle.lists.proofs.Members.{lawful-decides, in-head, in-list}
 use Rattle.lists.proofs.Places.{place-index}
 use Rattle.lists.proofs.Follow.{otherwise, first-some, next-within, within-some-in}
 use Rattle.patterns.specs.Tree.{point, merge}
-use Rattle.patterns.specs.Component.{Component, points, flat, compareComponent, validComponent}
-use Rattle.patterns.specs.Generation.{hasParent, parent, children, generation}
+use Rattle.patterns.specs.Component.{Component, points, flat, validComponent}
+use Rattle.patterns.specs.Generation.{hasParent, parent, children}
 use Rattle.patterns.proofs.Trees.{compareComponent-lawful, length-flat, flat-injective}
 use Rattle.components.specs.Climbs.{Climbed}
 use Rattle.component_theory.specs.Successor.{evenDepth, firstChild, nextSibling, opening, afterEven, afterOdd, successor}
@@ -26,7 +25,6 @@ use Rattle.component_theory.proofs.Children.{in-candidates, child-candidate, ch
 use Rattle.component_theory.specs.Path.{key}
 use Rattle.component_theory.proofs.ChildPlaces.{childFrom, nextSibling-place, length-candidates}
 use Rattle.component_theory.proofs.Generation.{length-points, valid-positive}
-use Rattle.component_theory.proofs.Successor.{successor-is}
 use Rattle.generation.specs.HeldNodes.{Node, Gave}
 use Rattle.succession.specs.Siblings.{Beside}
 use Rattle.succession.specs.declared.Sibling.{Sibling}

@@ -4,7 +4,7 @@ use mathlib.Core.List.{List, _∷_, _++_, append-assoc, append-nil}
 use Prim.Native.Nat.{ℕ, _+_, _-_, _≤_, _<_, compare}
 use native.Mathlib.Omega.{arith}
 use lib.ListN.{length, getD, set, take, drop, replicate, length-append, length-drop, length-replicate, drop-of-length-le}
-use lib.Seq.{take-at, drop-at, getD-at, set-at, drop-append-add, drop-append-le, take-length, drop-length}
+use lib.Seq.{take-at, drop-at, getD-at, set-at, drop-append-add, drop-append-le, take-length}
 use Rattle.lists.specs.Order.{lex, atMost}
 use Rattle.lists.specs.Blocks.{exchanged}
 use Rattle.lists.proofs.Blocks.{exchanged-parts}
