@@ -18,12 +18,6 @@ use Rattle.map_theory.specs.Plants.{Plant, shape, comparePlant}
 use Rattle.arrangement.specs.Arrangement.{Planted, pointsBefore}
 use Rattle.memory.proofs.Standing.{stands-left, stands-right, stands-path, stands-at, stands-part}
 use Rattle.arrangement.proofs.Planting.{points-plants, flat-plants, planted-exchanged, planted-stands}
-use Rattle.trees.proofs.Walks.{Along, Next, along-step, along-whole, along-end, along-length}
-use Rattle.memory.specs.Memory.{Stands}
-use Rattle.map_theory.specs.Plants.{Plant, shape, comparePlant}
-use Rattle.arrangement.specs.Arrangement.{Planted, pointsBefore}
-use Rattle.memory.proofs.Standing.{stands-left, stands-right, stands-path, stands-at, stands-part}
-use Rattle.arrangement.proofs.Planting.{points-plants, flat-plants, planted-exchanged, planted-stands}
 
 pub before-stop : (t u : Tree) (us : Component) → atMost compareTree t u ≡ true → pointsBefore t (u ∷ us) ≡ 0
 unfolding pointsBefore

@@ -20,8 +20,6 @@ use Rattle.patterns.proofs.Trees.{size-positive, length-flat, flat-append, poin
 use Rattle.patterns.proofs.Rotations.{cuts, rotation-append}
 use Rattle.trees.proofs.Walks.{Along, Next, along-step, along-end, no-trees}
 use Rattle.arrangement.specs.Arrangement.{LeastStart}
-use Rattle.trees.proofs.Walks.{Along, Next, along-step, along-end, no-trees}
-use Rattle.arrangement.specs.Arrangement.{LeastStart}
 
 -- a part of a list, and what follows it
 drop-part : {A : Type 0} (s : List A) (a e : ℕ) → a ≤ e → drop a s ≡ take (e - a) (drop a s) ++ drop e s

@@ -14,11 +14,8 @@ use Rattle.patterns.proofs.Trees.{flat-injective}
 use Rattle.trees.specs.Beginnings.{leadingPoints}
 use Rattle.component_theory.specs.ChildPlaces.{childAt, childFrom}
 use Rattle.component_theory.proofs.ChildPlaces.{childFrom-step, childFrom-end, childFrom-lefts, childFrom-past, length-candidates}
-use Rattle.component_theory.specs.ChildPlaces.{childAt}
-use Rattle.component_theory.specs.ChildPlaces.{childFrom}
-use Rattle.trees.specs.Beginnings.{leadingPoints}
 use Rattle.component_theory.proofs.Generation.{valid-positive}
-use Rattle.generation.specs.HeldNodes.{Node, HeldNeighbours, HeldScan, Gave, Passed}
+use Rattle.generation.specs.HeldNodes.{Node, HeldCandidate, HeldScan, Gave, Passed}
 
 pub gave-path : {o q : Option Component} → o ≡ q → (r : Bool) (x : List ℕ) → Gave o r x → Gave q r x
 gave-path e r x g = subst (λ k. Gave k r x) e g
@@ -59,38 +56,33 @@ pub scan-start : {s out : List ℕ} {k : ℕ} → Scanned s k k out out
 scan-start = record { room = refl; passed = λ c e. refl }
 
 module _ {s : List ℕ} {n h : ℕ} {out : List ℕ} (p : HeldScan s n h out) where
-  pub pair-at : (i : ℕ) (x : List ℕ) → length x ≡ length out → i < n → i ≤ h → HeldNeighbours s i x
+  pub pair-at : (i : ℕ) (x : List ℕ) → length x ≡ length out → i < n → i ≤ h → HeldCandidate s i x
   pair-at i x e k l =
-      let q = pair-after-points (p .trees) i (omega (arith, p .leads)) (omega (arith, p .counted)) in
+      let q = pair-after-points (p .node .trees) i (omega (arith, p .leads)) (omega (arith, p .counted)) in
       record {
-        this = q .0;
-        that = q .1;
-        after = q .2;
-        is = p .is ∙ ap flat (q .3);
-        valid = subst (λ c. validComponent c ≡ true) (q .3) (p .valid);
-        small = p .small;
-        room = e ∙ p .room;
+        pair = record { this = q .0; that = q .1; after = q .2; is = p .node .is ∙ ap flat (q .3); small = p .node .small; room = e ∙ p .room };
+        valid = subst (λ c. validComponent c ≡ true) (q .3) (p .node .valid);
       }
 
-  trees-are : (c : Component) → s ≡ flat c → p .trees ≡ c
-  trees-are c e = flat-injective (p .trees) c (sym (p .is) ∙ e)
+  trees-are : (c : Component) → s ≡ flat c → p .node .trees ≡ c
+  trees-are c e = flat-injective (p .node .trees) c (sym (p .node .is) ∙ e)
 
   pub candidates-count : (c : Component) → s ≡ flat c → length c ≡ suc n
   candidates-count c e = ap length (sym (trees-are c e)) ∙ p .counted
 
   late-left : (c : Component) → s ≡ flat c → (i : ℕ) → h < i → i < n → childFrom c i ≡ childFrom c n
   late-left c e i k l =
-      let t = p .trees in
+      let t = p .node .trees in
       let q = merge-after-points t (omega (arith, p .leads, p .counted)) in
       subst (λ d. childFrom d i ≡ childFrom d n) (trees-are c e)
-      (childFrom-lefts t (p .valid) n (p .counted) (leadingPoints t) (q .0) (q .1) (q .2) (q .3) i (omega (arith, p .leads)) (omega arith))
+      (childFrom-lefts t (p .node .valid) n (p .counted) (leadingPoints t) (q .0) (q .1) (q .2) (q .3) i (omega (arith, p .leads)) (omega arith))
 
   late-right : (c : Component) → s ≡ flat c → (i : ℕ) → h < i → i < n → childFrom c (n + i) ≡ none
   late-right c e i k l =
-      let t = p .trees in
+      let t = p .node .trees in
       let q = merge-after-points t (omega (arith, p .leads, p .counted)) in
       subst (λ d. childFrom d (n + i) ≡ none) (trees-are c e)
-      (childFrom-past t (p .valid) n (p .counted) (leadingPoints t) (q .0) (q .1) (q .2) (q .3) (n + i) (omega (arith, p .leads)))
+      (childFrom-past t (p .node .valid) n (p .counted) (leadingPoints t) (q .0) (q .1) (q .2) (q .3) (n + i) (omega (arith, p .leads)))
 
   step : (c : Component) → s ≡ flat c → (k : ℕ) → k < n + n → childFrom c k ≡ otherwise (first (childAt c k)) (childFrom c (suc k))
   step c e k h = childFrom-step c k (omega (arith, length-candidates c n (candidates-count c e)))
@@ -154,10 +146,7 @@ module _ {s : List ℕ} (p : Node s) (m : ℕ) (counted : (c : Component) → s 
 
   pub node-pairs : (h : ℕ) (out : List ℕ) → length out ≡ length s → ((c : Component) → s ≡ flat c → h ≡ leadingPoints c) → HeldScan s (m - 1) h out
   node-pairs h out e leads = record {
-    trees = p .trees;
-    is = p .is;
-    valid = p .valid;
-    small = p .small;
+    node = p;
     room = e;
     counted = omega (arith, counted (p .trees) (p .is), some-trees);
     leads = sym (leads (p .trees) (p .is));

@@ -16,26 +16,23 @@ use Rattle.trees.proofs.Walks.{lastStart-within}
 use Rattle.component_theory.proofs.Keys.{isLeast}
 use Rattle.component_theory.specs.ChildPlaces.{childAt}
 use Rattle.component_theory.proofs.ChildPlaces.{childAt-left, childAt-right}
-use Rattle.component_theory.specs.ChildPlaces.{childAt}
-use Rattle.generation.specs.HeldNodes.{Gave}
-use Rattle.generation.proofs.Merging.{that-size, this-stretch, that-stretch, last-stretch, last-branch-atMost}
-use Rattle.trees.proofs.Walks.{lastStart-within}
-use Rattle.generation.specs.HeldNodes.{HeldNeighbours, Gave}
+use Rattle.generation.specs.HeldNodes.{Gave, HeldCandidate}
+use Rattle.trees.proofs.Merging.{that-size, this-stretch, that-stretch, last-stretch, last-branch-atMost}
 
 -- a candidate that passes is given
 pub gave-candidate : (b : Bool) (d : Component) (r : Bool) (x : List ℕ) → r ≡ b → (b ≡ true → x ≡ flat d) → Gave (first (cond b (d ∷ []) [])) r x
 gave-candidate true d r x e f = (e, f refl)
 gave-candidate false d r x e f = e
 
-module _ {s : List ℕ} {i : ℕ} {out : List ℕ} (p : HeldNeighbours s i out) where
+module _ {s : List ℕ} {i : ℕ} {out : List ℕ} (p : HeldCandidate s i out) where
   abbrev pub whole : Component
-  whole = replicate i point ++ (p .this ∷ p .that ∷ p .after)
+  whole = replicate i point ++ (p .pair .this ∷ p .pair .that ∷ p .pair .after)
 
   abbrev pub leftMerge : Component
-  leftMerge = replicate i point ++ (merge (p .this) (p .that) ∷ p .after)
+  leftMerge = replicate i point ++ (merge (p .pair .this) (p .pair .that) ∷ p .pair .after)
 
   abbrev pub rightMerge : Component
-  rightMerge = replicate i point ++ (merge (p .that) (p .this) ∷ p .after)
+  rightMerge = replicate i point ++ (merge (p .pair .that) (p .pair .this) ∷ p .pair .after)
 
   -- the stretches of the two trees, and of the last branch of the second
   abbrev pub thisPart : List ℕ
@@ -48,40 +45,40 @@ module _ {s : List ℕ} {i : ℕ} {out : List ℕ} (p : HeldNeighbours s i out) 
   lastPart k = let j = i + getD s i 0 in take (j + getD s j 0 - (j + k)) (drop (j + k) s)
 
   pub trees-are : (c : Component) → s ≡ flat c → whole ≡ c
-  trees-are c e = flat-injective whole c (sym (p .is) ∙ e)
+  trees-are c e = flat-injective whole c (sym (p .pair .is) ∙ e)
 
-  this-is : thisPart ≡ code (p .this)
-  this-is = this-stretch s i (p .this) (p .that) (p .after) (p .is)
+  this-is : thisPart ≡ code (p .pair .this)
+  this-is = this-stretch s i (p .pair .this) (p .pair .that) (p .pair .after) (p .pair .is)
 
-  pub that-is : thatPart ≡ code (p .that)
-  that-is = that-stretch s i (p .this) (p .that) (p .after) (p .is)
+  pub that-is : thatPart ≡ code (p .pair .that)
+  that-is = that-stretch s i (p .pair .this) (p .pair .that) (p .pair .after) (p .pair .is)
 
-  in-order : atMost (lex compare) thisPart thatPart ≡ atMost compareTree (p .this) (p .that)
+  in-order : atMost (lex compare) thisPart thatPart ≡ atMost compareTree (p .pair .this) (p .pair .that)
   unfolding compareTree
   in-order = ap₂ (atMost (lex compare)) this-is that-is
 
-  turned-order : atMost (lex compare) thatPart thisPart ≡ atMost compareTree (p .that) (p .this)
+  turned-order : atMost (lex compare) thatPart thisPart ≡ atMost compareTree (p .pair .that) (p .pair .this)
   unfolding compareTree
   turned-order = ap₂ (atMost (lex compare)) that-is this-is
 
-  last-order : (k : ℕ) → k ≡ lastStart (p .that) → atMost (lex compare) (lastPart k) thisPart ≡ lastAtMost (p .that) (p .this)
+  last-order : (k : ℕ) → k ≡ lastStart (p .pair .that) → atMost (lex compare) (lastPart k) thisPart ≡ lastAtMost (p .pair .that) (p .pair .this)
   last-order k e =
-      ap₂ (atMost (lex compare)) (ap lastPart e ∙ last-stretch s i (p .this) (p .that) (p .after) (p .is)) this-is
-      ∙ last-branch-atMost (p .that) (p .this)
+      ap₂ (atMost (lex compare)) (ap lastPart e ∙ last-stretch s i (p .pair .this) (p .pair .that) (p .pair .after) (p .pair .is)) this-is
+      ∙ last-branch-atMost (p .pair .that) (p .pair .this)
 
-  pub last-within : (k : ℕ) → k ≡ lastStart (p .that) → k ≤ getD s (i + getD s i 0) 0
-  last-within k e = omega (arith, lastStart-within (p .that), that-size s i (p .this) (p .that) (p .after) (p .is))
+  pub last-within : (k : ℕ) → k ≡ lastStart (p .pair .that) → k ≤ getD s (i + getD s i 0) 0
+  last-within k e = omega (arith, lastStart-within (p .pair .that), that-size s i (p .pair .this) (p .pair .that) (p .pair .after) (p .pair .is))
 
   two : length whole ≡ suc (length whole - 1)
-  two = omega (arith, length-append (replicate i point) (p .this ∷ p .that ∷ p .after))
+  two = omega (arith, length-append (replicate i point) (p .pair .this ∷ p .pair .that ∷ p .pair .after))
 
   module _ (c : Component) (e : s ≡ flat c) where
-    left-gave : (b : Bool) → (atMost compareTree (p .this) (p .that) && isLeast leftMerge) ≡ b
+    left-gave : (b : Bool) → (atMost compareTree (p .pair .this) (p .pair .that) && isLeast leftMerge) ≡ b
         → (r : Bool) (x : List ℕ) → r ≡ b → (b ≡ true → x ≡ flat leftMerge) → Gave (first (childAt c i)) r x
     left-gave b h r x f g =
         subst (λ l. Gave (first l) r x)
         (sym (ap (λ k. childAt k i) (sym (trees-are c e))
-        ∙ childAt-left whole (p .valid) (length whole - 1) two i (p .this) (p .that) (p .after) refl
+        ∙ childAt-left whole (p .valid) (length whole - 1) two i (p .pair .this) (p .pair .that) (p .pair .after) refl
         ∙ ap (λ q. cond q (leftMerge ∷ []) []) h))
         (gave-candidate b leftMerge r x f g)
 
@@ -95,21 +92,21 @@ module _ {s : List ℕ} {i : ℕ} {out : List ℕ} (p : HeldNeighbours s i out) 
     left-tested h r x f g = left-gave (isLeast leftMerge) (ap (λ b. b && isLeast leftMerge) (sym in-order ∙ h)) r x f (λ q. g)
 
     module _ (n : ℕ) (l : length c ≡ suc n) where
-      right-gave : (b : Bool) → (not (atMost compareTree (p .that) (p .this)) && lastAtMost (p .that) (p .this) && isLeast rightMerge) ≡ b
+      right-gave : (b : Bool) → (not (atMost compareTree (p .pair .that) (p .pair .this)) && lastAtMost (p .pair .that) (p .pair .this) && isLeast rightMerge) ≡ b
           → (r : Bool) (x : List ℕ) → r ≡ b → (b ≡ true → x ≡ flat rightMerge) → Gave (first (childAt c (n + i))) r x
       right-gave b h r x f g =
           subst (λ m. Gave (first m) r x)
           (sym (ap (λ k. childAt k (n + i)) (sym (trees-are c e))
-          ∙ childAt-right whole (p .valid) n (ap length (trees-are c e) ∙ l) i (p .this) (p .that) (p .after) refl
+          ∙ childAt-right whole (p .valid) n (ap length (trees-are c e) ∙ l) i (p .pair .this) (p .pair .that) (p .pair .after) refl
           ∙ ap (λ q. cond q (rightMerge ∷ []) []) h))
           (gave-candidate b rightMerge r x f g)
 
       -- the second tree is not greater: the right merge is no child, or the left merge too
       pub right-refused : atMost (lex compare) thatPart thisPart ≡ true → (x : List ℕ) → Gave (first (childAt c (n + i))) false x
       right-refused h x =
-          right-gave false (ap (λ b. not b && lastAtMost (p .that) (p .this) && isLeast rightMerge) (sym turned-order ∙ h)) false x refl (λ q. no-both q refl)
+          right-gave false (ap (λ b. not b && lastAtMost (p .pair .that) (p .pair .this) && isLeast rightMerge) (sym turned-order ∙ h)) false x refl (λ q. no-both q refl)
 
-      module _ (h : atMost (lex compare) thatPart thisPart ≡ false) (k : ℕ) (at : k ≡ lastStart (p .that)) where
+      module _ (h : atMost (lex compare) thatPart thisPart ≡ false) (k : ℕ) (at : k ≡ lastStart (p .pair .that)) where
         -- the last branch of the second is greater than the first: the right merge is no valid tree
         pub right-unsorted : atMost (lex compare) (lastPart k) thisPart ≡ false → (x : List ℕ) → Gave (first (childAt c (n + i))) false x
         right-unsorted f x =

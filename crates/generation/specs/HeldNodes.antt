@@ -1,17 +1,15 @@
 -- What the functions of this crate ask of lent slices, and what their answers mean.
 use mathlib.Core.Path.{_≡_}
 use mathlib.Core.Bool.{Bool, true, false}
-use mathlib.Core.List.{List, _∷_, _++_}
+use mathlib.Core.List.{List, _∷_}
 use mathlib.Core.Option.{Option, none, some}
 use Prim.Native.Nat.{ℕ, suc, _≤_}
-use lib.ListN.{length, replicate}
+use lib.ListN.{length}
 use Rattle.lists.specs.Select.{otherwise}
-use Rattle.patterns.specs.Tree.{Tree, point}
 use Rattle.patterns.specs.Component.{Component, flat, validComponent}
 use Rattle.trees.specs.Beginnings.{leadingPoints}
 use Rattle.component_theory.specs.ChildPlaces.{childFrom}
-use Rattle.trees.specs.Beginnings.{leadingPoints}
-use Rattle.component_theory.specs.ChildPlaces.{childFrom}
+use Rattle.trees.specs.HeldNeighbours.{behind, HeldNeighbours}
 
 -- a valid component of at most 200 points
 pub record Node (s : List ℕ) : Type 0 where
@@ -24,29 +22,17 @@ pub record Node (s : List ℕ) : Type 0 where
 abbrev pub AsLong : List ℕ → List ℕ → Type 0
 AsLong s out = length out ≡ length s
 
--- c behind i points
-abbrev pub behind : ℕ → Component → Component
-behind i c = replicate i point ++ c
-
 -- a valid component of at most 200 points whose first i trees are points and that has two trees more, and a buffer of as many numbers
-pub record HeldNeighbours (s : List ℕ) (i : ℕ) (out : List ℕ) : Type 0 where
-  pub this : Tree
-  pub that : Tree
-  pub after : Component
-  pub is : s ≡ flat (behind i (this ∷ that ∷ after))
-  pub valid : validComponent (behind i (this ∷ that ∷ after)) ≡ true
-  pub small : length s ≤ 200
-  pub room : AsLong s out
+pub record HeldCandidate (s : List ℕ) (i : ℕ) (out : List ℕ) : Type 0 where
+  pub pair : HeldNeighbours s i out
+  pub valid : validComponent (behind i (pair .this ∷ pair .that ∷ pair .after)) ≡ true
 
 -- a valid component of at most 200 points with its numbers of pairs of neighbours and of leading points, and a buffer of as many numbers
 pub record HeldScan (s : List ℕ) (pairs lead : ℕ) (out : List ℕ) : Type 0 where
-  pub trees : Component
-  pub is : s ≡ flat trees
-  pub valid : validComponent trees ≡ true
-  pub small : length s ≤ 200
+  pub node : Node s
   pub room : AsLong s out
-  pub counted : length trees ≡ suc pairs
-  pub leads : leadingPoints trees ≡ lead
+  pub counted : length (node .trees) ≡ suc pairs
+  pub leads : leadingPoints (node .trees) ≡ lead
 
 -- a component, if there is one, was written to a buffer, and r says whether there is
 abbrev pub Gave : Option Component → Bool → List ℕ → Type 0

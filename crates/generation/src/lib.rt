@@ -1,49 +1,25 @@
-// The step from a component to the next in generation order [document 004, Theorem 13]: children, next siblings, and what follows.
+// The children of a component [document 004, Lemma 12].
 // A component is flat: a slice of as many bytes as it has points, the codes of its trees one after another.
-use bytes::copy;
 use components::has_least_rotation;
-use lists::exchange;
 use trees::at_most;
 use trees::count;
 use trees::last_branch;
 use trees::leading;
+use trees::merge_left;
+use trees::merge_right;
 ghost use denote.Ref.{now};
 ghost use mathlib.Core.Path.{_≡_};
-ghost use mathlib.Core.List.{_∷_};
 ghost use Prim.Native.Nat.{ℕ, suc, _+_, _≤_};
 ghost use lib.ListN.{length};
 ghost use Rattle.lists.specs.Select.{first};
-ghost use Rattle.patterns.specs.Tree.{Tree, merge};
 ghost use Rattle.patterns.specs.Component.{Component, flat};
 ghost use Rattle.component_theory.specs.Successor.{firstChild};
 ghost use Rattle.component_theory.specs.ChildPlaces.{childAt, childFrom};
-ghost use Rattle.generation.specs.HeldNodes.{Node, AsLong, behind, HeldNeighbours, HeldScan, Gave, Passed};
-
-// The trees at `i` and behind it merged, the first with the second as its last branch.
-pub fn merge_left(s: &[u8], i: usize, out: &mut [u8])
-    requires { ⌜ HeldNeighbours (now s) i (now out) ⌝ }
-    ensures { λ r. ⌜ ((t u : Tree) (c : Component) → now (s .entry) ≡ flat (behind i (t ∷ u ∷ c)) → now (out .exit) ≡ flat (behind i (merge t u ∷ c))) ⌝ }
-{
-    copy(s, out);
-    let j = i + s[i] as usize;
-    out[i] = s[i] + s[j];
-}
-
-// The trees at `i` and behind it merged, the second with the first as its last branch.
-pub fn merge_right(s: &[u8], i: usize, out: &mut [u8])
-    requires { ⌜ HeldNeighbours (now s) i (now out) ⌝ }
-    ensures { λ r. ⌜ ((t u : Tree) (c : Component) → now (s .entry) ≡ flat (behind i (t ∷ u ∷ c)) → now (out .exit) ≡ flat (behind i (merge u t ∷ c))) ⌝ }
-{
-    copy(s, out);
-    let j = i + s[i] as usize;
-    let e = j + s[j] as usize;
-    exchange(out, i, j, e);
-    out[i] = s[j] + s[i];
-}
+ghost use Rattle.generation.specs.HeldNodes.{Node, AsLong, HeldCandidate, HeldScan, Gave, Passed};
 
 // The left merge at `i`, where it is a child.
 pub fn left_child(s: &[u8], i: usize, out: &mut [u8]) -> bool
-    requires { ⌜ HeldNeighbours (now s) i (now out) ⌝ }
+    requires { ⌜ HeldCandidate (now s) i (now out) ⌝ }
     ensures { λ r. ⌜ ((c : Component) → now (s .entry) ≡ flat c → Gave (first (childAt c i)) r (now (out .exit))) ⌝ }
 {
     let j = i + s[i] as usize;
@@ -57,7 +33,7 @@ pub fn left_child(s: &[u8], i: usize, out: &mut [u8]) -> bool
 
 // The right merge at `i`, where it is a child and not the left merge too.
 pub fn right_child(s: &[u8], i: usize, out: &mut [u8]) -> bool
-    requires { ⌜ HeldNeighbours (now s) i (now out) ⌝ }
+    requires { ⌜ HeldCandidate (now s) i (now out) ⌝ }
     ensures { λ r. ⌜ ((c : Component) (n : ℕ) → now (s .entry) ≡ flat c → length c ≡ suc n → Gave (first (childAt c (n + i))) r (now (out .exit))) ⌝ }
 {
     let j = i + s[i] as usize;

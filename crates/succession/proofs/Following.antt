@@ -9,7 +9,6 @@ use native.Mathlib.Numerals.{add-one}
 use lib.Dec.{eqb}
 use lib.ListN.{length}
 use borrow.Author.Tests.{eq-eqb, ne-eqb}
-use Rattle.lists.specs.Select.{next}
 use Rattle.lists.proofs.Members.{lawful-decides, in-head, in-list}
 use Rattle.lists.proofs.Places.{place-index}
 use Rattle.lists.proofs.Follow.{otherwise, first-some, next-within, within-some-in}
@@ -20,8 +19,6 @@ use Rattle.patterns.proofs.Trees.{compareComponent-lawful, length-flat, flat-in
 use Rattle.components.specs.Climbs.{Climbed}
 use Rattle.component_theory.specs.LocalStep.{evenDepth}
 use Rattle.component_theory.specs.Successor.{firstChild, nextSibling, opening, afterEven, afterOdd, successor}
-use Rattle.component_theory.specs.LocalStep.{evenDepth}
-use Rattle.components.specs.Climbs.{Climbed}
 use Rattle.components.specs.declared.Climb.{Climb}
 use Rattle.components.specs.declared.Climb.the-variants.{Root as NoParent, Key}
 use Rattle.component_theory.proofs.Lemma8.{parent-valid, parent-points}
@@ -60,21 +57,30 @@ pub gave-node : (o : Option Component) (x : List ℕ) → Gave o true x → ((d 
 gave-node none x g f l = absurd (true≢false g)
 gave-node (some d) x g f l = record { trees = d; is = g .1; valid = f d refl; small = l }
 
--- The step up to the parent, which x holds, and the scan of its children after this one.
-module _ {s : List ℕ} (p : Node s) (r : Climb) (k : ℕ) (climbs : r ≡ Key k) (x : List ℕ) (same : length x ≡ length s)
-    (climbed : (c : Component) → s ≡ flat c → Climbed c r x) where
-  up : (c : Component) → s ≡ flat c → (hasParent c ≡ true) × (x ≡ flat (parent c)) × (k ≡ key c)
-  up c e = subst (λ q. Climbed c q x) climbs (climbed c e)
+-- The step up: s holds a valid component, x its parent, and k is its key.
+pub record Raised (s x : List ℕ) (k : ℕ) : Type 0 where
+  pub node : Node s
+  pub same : length x ≡ length s
+  pub up : (c : Component) → s ≡ flat c → (hasParent c ≡ true) × (x ≡ flat (parent c)) × (k ≡ key c)
+
+pub raised : {s : List ℕ} → Node s → (r : Climb) (k : ℕ) → r ≡ Key k → (x : List ℕ) → length x ≡ length s
+    → ((c : Component) → s ≡ flat c → Climbed c r x) → Raised s x k
+raised p r k climbs x same climbed = record { node = p; same = same; up = λ c e. subst (λ q. Climbed c q x) climbs (climbed c e) }
+
+-- the scan of the parent's children after this one
+module _ {s x : List ℕ} {k : ℕ} (v : Raised s x k) where
+  abbrev p : Node s
+  p = v .node
 
   pub up-node : Node x
   up-node =
-      let u = up (p .trees) (p .is) in
-      record { trees = parent (p .trees); is = u .1; valid = parent-valid (p .trees) (p .valid) (u .0); small = omega (arith, p .small) }
+      let u = v .up (p .trees) (p .is) in
+      record { trees = parent (p .trees); is = u .1; valid = parent-valid (p .trees) (p .valid) (u .0); small = omega (arith, p .small, v .same) }
 
   pub up-key : k < 400
   up-key =
       let c = p .trees in
-      let u = up c (p .is) in
+      let u = v .up c (p .is) in
       let n = length (parent c) - 1 in
       let l : length (parent c) ≡ suc n = omega (arith, valid-positive (parent c) (parent-valid c (p .valid) (u .0))) in
       omega (
@@ -91,18 +97,18 @@ module _ {s : List ℕ} (p : Node s) (r : Climb) (k : ℕ) (climbs : r ≡ Key k
 
   after-key : (c : Component) → s ≡ flat c → childFrom (parent c) (k + 1) ≡ nextSibling c
   after-key c e =
-      let u = up c e in
+      let u = v .up c e in
       ap (childFrom (parent c)) (add-one k ∙ ap suc (u .2)) ∙ sym (nextSibling-place c (node-valid p c e) (u .0))
 
   module _ (b : Bool) (y : List ℕ) (scanned : (c : Component) → x ≡ flat c → Gave (childFrom c (k + 1)) b y) (c : Component) (e : s ≡ flat c) where
     sibling : (a : Bool) → b ≡ a → Gave (nextSibling c) a y
-    sibling a f = gave-path (after-key c e) a y (subst (λ q. Gave (childFrom (parent c) (k + 1)) q y) f (scanned (parent c) (up c e .1)))
+    sibling a f = gave-path (after-key c e) a y (subst (λ q. Gave (childFrom (parent c) (k + 1)) q y) f (scanned (parent c) (v .up c e .1)))
 
     pub beside-next : b ≡ true → (hasParent c ≡ true) × (x ≡ flat (parent c)) × Gave (nextSibling c) true y
-    beside-next f = let u = up c e in (u .0, u .1, sibling true f)
+    beside-next f = let u = v .up c e in (u .0, u .1, sibling true f)
 
     pub beside-last : b ≡ false → (hasParent c ≡ true) × (x ≡ flat (parent c)) × (nextSibling c ≡ none)
-    beside-last f = let u = up c e in (u .0, u .1, gave-nothing (nextSibling c) y (sibling false f))
+    beside-last f = let u = v .up c e in (u .0, u .1, gave-nothing (nextSibling c) y (sibling false f))
 
 pub climbed-root : (c : Component) (r : Climb) (x : List ℕ) → Climbed c r x → r ≡ NoParent → hasParent c ≡ false
 climbed-root c r x g e = subst (λ k. Climbed c k x) e g

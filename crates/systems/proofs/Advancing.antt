@@ -16,8 +16,6 @@ use Rattle.component_theory.specs.Successor.{successor}
 use Rattle.component_theory.proofs.Successor.{successor-valid}
 use Rattle.generation.specs.HeldNodes.{Node, Gave}
 use Rattle.system_theory.specs.Step.{fills}
-use Rattle.generation.specs.HeldNodes.{Node, Gave}
-use Rattle.system_theory.specs.Step.{fills}
 use Rattle.memory.specs.Memory.{Holds}
 use Rattle.systems.specs.Held.{sum, fillTrees, HeldAhead, Advanced}
 use Rattle.systems.proofs.Filling.{flat-fills, fill-here}

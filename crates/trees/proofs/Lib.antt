@@ -1,2 +1,3 @@
 -- The theory of this layer.
 pub mod Walks
+pub mod Merging

@@ -1,19 +1,22 @@
 // Flat trees: a tree is the slice of its code, a byte for each point, and a component is the codes of its trees one after another.
+use bytes::copy;
 use lists::Order;
 use lists::compare;
+use lists::exchange;
 ghost use denote.Ref.{now};
 ghost use mathlib.Core.Path.{_≡_};
-ghost use mathlib.Core.Bool.{not, true};
+ghost use mathlib.Core.List.{_∷_};
 ghost use Prim.Native.Nat.{compare as compareNumbers};
 ghost use lib.Dec.{isLe};
 ghost use lib.ListN.{length};
 ghost use Rattle.lists.specs.Order.{lex, atMost};
 ghost use Rattle.lists.specs.Select.{each};
 ghost use Rattle.lists.specs.Blocks.{orderingOf};
-ghost use Rattle.patterns.specs.Tree.{Tree, code, validTree};
+ghost use Rattle.patterns.specs.Tree.{Tree, merge, code, validTree};
 ghost use Rattle.patterns.specs.Component.{Component, flat};
 ghost use Rattle.memory.specs.Memory.{Held, HeldTree};
 ghost use Rattle.trees.specs.Beginnings.{leadingPoints, lastStart};
+ghost use Rattle.trees.specs.HeldNeighbours.{behind, HeldNeighbours};
 
 // Less or equal.
 pub fn not_greater(order: Order) -> bool
@@ -111,4 +114,26 @@ pub fn last_branch(s: &[u8]) -> usize
         at += s[at] as usize;
     }
     last
+}
+
+// The trees at `i` and behind it merged, the first with the second as its last branch.
+pub fn merge_left(s: &[u8], i: usize, out: &mut [u8])
+    requires { ⌜ HeldNeighbours (now s) i (now out) ⌝ }
+    ensures { λ r. ⌜ ((t u : Tree) (c : Component) → now (s .entry) ≡ flat (behind i (t ∷ u ∷ c)) → now (out .exit) ≡ flat (behind i (merge t u ∷ c))) ⌝ }
+{
+    copy(s, out);
+    let j = i + s[i] as usize;
+    out[i] = s[i] + s[j];
+}
+
+// The trees at `i` and behind it merged, the second with the first as its last branch.
+pub fn merge_right(s: &[u8], i: usize, out: &mut [u8])
+    requires { ⌜ HeldNeighbours (now s) i (now out) ⌝ }
+    ensures { λ r. ⌜ ((t u : Tree) (c : Component) → now (s .entry) ≡ flat (behind i (t ∷ u ∷ c)) → now (out .exit) ≡ flat (behind i (merge u t ∷ c))) ⌝ }
+{
+    copy(s, out);
+    let j = i + s[i] as usize;
+    let e = j + s[j] as usize;
+    exchange(out, i, j, e);
+    out[i] = s[j] + s[i];
 }

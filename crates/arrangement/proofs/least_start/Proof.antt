@@ -5,8 +5,6 @@ use Prim.Native.Nat.{_-_}
 use lib.ListN.{length}
 use Rattle.trees.proofs.Walks.{Along, along-start, along-next}
 use Rattle.arrangement.proofs.LeastTurn.{Best, best-start, best-within, best-kept, best-moved, best-end, least-already}
-use Rattle.trees.proofs.Walks.{Along, along-start, along-next}
-use Rattle.arrangement.proofs.LeastTurn.{Best, best-start, best-within, best-kept, best-moved, best-end, least-already}
 use native.Mathlib.Omega.{arith}
 use borrow.Author.Needs.{needs}
 use Rattle.arrangement.proofs.least_start.Statement.{statement}

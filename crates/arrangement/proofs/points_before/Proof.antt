@@ -5,8 +5,6 @@ use lib.ListN.{length}
 use Rattle.lists.specs.Order.{lex, atMost}
 use Rattle.trees.proofs.Walks.{Along, along-start, along-next, next-stretch, along-length}
 use Rattle.arrangement.proofs.Inserting.{Exceeds, exceeds-start, exceeds-stop, exceeds-step, exceeds-end}
-use Rattle.trees.proofs.Walks.{Along, along-start, along-next, next-stretch, along-length}
-use Rattle.arrangement.proofs.Inserting.{Exceeds, exceeds-start, exceeds-stop, exceeds-step, exceeds-end}
 use native.Mathlib.Omega.{arith}
 use borrow.Author.Needs.{needs}
 use Rattle.arrangement.proofs.points_before.Statement.{statement}

@@ -5,18 +5,12 @@ use Rattle.lists.proofs.Filled.{copied}
 use Rattle.components.proofs.parent.Statement.{statement}
 use Rattle.components.proofs.parent.Tie as tie
 
-copy-requires : tie.Need-copy-requires
-copy-requires c κs = search needs
-
 unmerge-requires : tie.Need-unmerge-requires
 unmerge-requires c κs =
     let copy = c .before .before .before in
     let start = copy .before .before .before .before in
     let e = copy .copy .ensures .1 ∙ copied (now (start .args .s)) (now (start .args .out)) (start .pre .room) in
     record { trees = start .pre .trees; is = e ∙ start .pre .is }
-
-same-length : tie.Need-same-length
-same-length c = search needs
 
 returns : tie.Need-returns
 returns c =
@@ -27,4 +21,10 @@ returns c =
     λ d q. up .unmerge .ensures d (e ∙ q)
 
 pub parent-spec : {M : Type 1} → statement M
-parent-spec = tie.close (tie.spec copy-requires unmerge-requires same-length returns)
+parent-spec =
+    tie.close
+    (tie.spec
+    (λ c κs. search needs)
+    unmerge-requires
+    (λ c. search needs)
+    returns)

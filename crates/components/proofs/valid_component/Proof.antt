@@ -10,16 +10,10 @@ use Rattle.components.proofs.valid_component.Tie as tie
 returns : tie.Need-returns
 returns c = λ d e. valid-not-empty (now (c .before .before .args .s)) (omega arith) d e
 
-valid-trees-requires : tie.Need-valid-trees-requires
-valid-trees-requires c κs = search needs
-
 returns-2 : tie.Need-returns-2
 returns-2 c =
     let r = c .before .valid-trees in
     λ d e. valid-not-trees d (sym (r .ensures d e) ∙ not-of-true (r .result) (c .if2 .taken))
-
-has-least-rotation-requires : tie.Need-has-least-rotation-requires
-has-least-rotation-requires c κs = search needs
 
 returns-3 : tie.Need-returns-3
 returns-3 c =
@@ -29,4 +23,10 @@ returns-3 c =
 
 pub valid-component-spec : {M : Type 1} → statement M
 valid-component-spec =
-    tie.close (tie.spec returns valid-trees-requires returns-2 has-least-rotation-requires returns-3)
+    tie.close
+    (tie.spec
+    returns
+    (λ c κs. search needs)
+    returns-2
+    (λ c κs. search needs)
+    returns-3)

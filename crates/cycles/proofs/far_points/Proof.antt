@@ -4,10 +4,10 @@ use Prim.Native.Nat.{_-_}
 use native.Mathlib.Omega.{arith}
 use lib.ListN.{length, length-map}
 use Rattle.patterns.specs.Table.{image}
+use Rattle.cycles.proofs.far_points.Tie as tie
 use Rattle.lists.proofs.Filled.{copied}
 use Rattle.cycles.proofs.Marking.{Steps, steps-start, steps-inside, steps-double, steps-end}
 use Rattle.cycles.proofs.far_points.Statement.{statement}
-use Rattle.cycles.proofs.far_points.Tie as tie
 
 abbrev Inv-loop : tie.InvT-loop
 Inv-loop f far₀ work₀ steps₀ far work steps = Steps f far steps × (length work ≡ length f)

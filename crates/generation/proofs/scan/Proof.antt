@@ -8,17 +8,8 @@ use Rattle.generation.proofs.Scanning.{gave-path, some-trees, node-pair
 use Rattle.generation.proofs.scan.Statement.{statement}
 use Rattle.generation.proofs.scan.Tie as tie
 
-count-requires : tie.Need-count-requires
-count-requires c κs = search needs
-
 sub-pairs : tie.Need-sub-pairs
 sub-pairs c = some-trees (c .before .before .before .pre .0) (c .count .result) (c .count .ensures)
-
-leading-requires : tie.Need-leading-requires
-leading-requires c κs = search needs
-
-sub-scan-right : tie.Need-sub-scan-right
-sub-scan-right c = search needs
 
 scan-right-requires : tie.Need-scan-right-requires
 scan-right-requires c κs =
@@ -26,9 +17,6 @@ scan-right-requires c κs =
     let at-count = at-leading .before in
     let start = at-count .before .before .before in
     node-pairs (start .pre .0) (at-count .count .result) (at-count .count .ensures) (at-leading .leading .result) _ (start .pre .1) (at-leading .leading .ensures)
-
-same-length : tie.Need-same-length
-same-length c = search needs
 
 returns : tie.Need-returns
 returns c =
@@ -46,9 +34,6 @@ scan-left-requires c κs =
     let start = at-count .before .before .before in
     (node-pairs (start .pre .0) (at-count .count .result) (at-count .count .ensures) (at-leading .leading .result) _ (start .pre .1) (at-leading .leading .ensures), omega arith)
 
-same-length-2 : tie.Need-same-length-2
-same-length-2 c = search needs
-
 returns-2 : tie.Need-returns-2
 returns-2 c = λ d e. passed-found (c .before .before .before .scan-left .ensures d e) (c .if2 .taken)
 
@@ -60,9 +45,6 @@ scan-right-requires-2 c κs =
     let start = at-count .before .before .before in
     let room = at-scan-left .scan-left .kept .1 .1 .1 .1 .0 ∙ start .pre .1 in
     node-pairs (start .pre .0) (at-count .count .result) (at-count .count .ensures) (at-leading .leading .result) _ room (at-leading .leading .ensures)
-
-same-length-3 : tie.Need-same-length-3
-same-length-3 c = search needs
 
 returns-3 : tie.Need-returns-3
 returns-3 c =
@@ -78,16 +60,16 @@ pub scan-spec : {M : Type 1} → statement M
 scan-spec =
     tie.close
     (tie.spec
-    count-requires
+    (λ c κs. search needs)
     sub-pairs
-    leading-requires
-    sub-scan-right
+    (λ c κs. search needs)
+    (λ c. search needs)
     scan-right-requires
-    same-length
+    (λ c. search needs)
     returns
     scan-left-requires
-    same-length-2
+    (λ c. search needs)
     returns-2
     scan-right-requires-2
-    same-length-3
+    (λ c. search needs)
     returns-3)

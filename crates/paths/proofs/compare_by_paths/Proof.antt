@@ -6,10 +6,6 @@ use native.Mathlib.Omega.{arith}
 use borrow.Author.Needs.{needs}
 use lib.ListN.{length}
 use Rattle.paths.proofs.compare_by_paths.Tie as tie
-use Rattle.paths.proofs.compare_by_paths.Tie as tie
-use Rattle.lists.specs.Order.{lexBy}
-use Rattle.paths.proofs.Tracing.{traced-whole}
-use Rattle.paths.proofs.compare_by_paths.Statement.{statement}
 use Rattle.lists.specs.Order.{lexBy}
 use Rattle.paths.proofs.Tracing.{traced-whole}
 use Rattle.paths.proofs.compare_by_paths.Statement.{statement}

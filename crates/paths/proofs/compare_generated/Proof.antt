@@ -7,9 +7,6 @@ use lib.ListN.{length, take}
 use Rattle.paths.proofs.Tracing.{generated-by-paths, fewer-points, more-points}
 use lib.Seq.{length-take-le}
 use Rattle.paths.proofs.compare_generated.Tie as tie
-use Rattle.paths.proofs.compare_generated.Tie as tie
-use Rattle.paths.proofs.compare_generated.Statement.{statement}
-use Rattle.paths.proofs.Tracing.{fewer-points, more-points, generated-by-paths}
 use Rattle.paths.proofs.compare_generated.Statement.{statement}
 
 -- equally many points

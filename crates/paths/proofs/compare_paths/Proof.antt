@@ -19,25 +19,10 @@ abbrev μ-loop : tie.MeasureT-loop
 loop-holds : tie.Need-loop-holds Inv-loop μ-loop
 loop-holds c = let a = c .before .before .args in passed-start (now (a .a)) (now (a .b))
 
-ended-requires : tie.Need-ended-requires Inv-loop μ-loop
-ended-requires c κs = search needs
-
 returns : tie.Need-returns Inv-loop μ-loop
 returns c =
     let e = c .ended .ensures in
     ap orderingOf e ∙ ordering-cond (even (c .before .before .before .loop .i)) Greater Less ∙ passed-longer (c .before .before .before .loop .inv) (omega arith) (omega arith)
-
-mul-x : tie.Need-mul-x Inv-loop μ-loop
-mul-x c = search needs
-
-shared-slice-read-x : tie.Need-shared-slice-read-x Inv-loop μ-loop
-shared-slice-read-x c = search needs
-
-mul-y : tie.Need-mul-y Inv-loop μ-loop
-mul-y c = search needs
-
-shared-slice-read-y : tie.Need-shared-slice-read-y Inv-loop μ-loop
-shared-slice-read-y c = search needs
 
 returns-2 : tie.Need-returns-2 Inv-loop μ-loop
 returns-2 c = passed-less (c .before .before .before .before .before .loop .inv) (omega arith) (omega arith) (omega arith)
@@ -45,17 +30,8 @@ returns-2 c = passed-less (c .before .before .before .before .before .loop .inv)
 returns-3 : tie.Need-returns-3 Inv-loop μ-loop
 returns-3 c = passed-greater (c .before .before .before .before .before .before .loop .inv) (omega arith) (omega arith) (omega arith)
 
-add-i : tie.Need-add-i Inv-loop μ-loop
-add-i c = search needs
-
-loop-less : tie.Need-loop-less Inv-loop μ-loop
-loop-less c = search needs
-
 loop-again : tie.Need-loop-again Inv-loop μ-loop
 loop-again c = passed-step (c .before .before .before .before .before .before .loop .inv) (omega arith) (omega arith) (omega arith) (omega arith)
-
-ended-requires-2 : tie.Need-ended-requires-2 Inv-loop μ-loop
-ended-requires-2 c κs = search needs
 
 returns-4 : tie.Need-returns-4 Inv-loop μ-loop
 returns-4 c =
@@ -72,17 +48,17 @@ compare-paths-spec =
     Inv-loop
     μ-loop
     loop-holds
-    ended-requires
+    (λ c κs. search needs)
     returns
-    mul-x
-    shared-slice-read-x
-    mul-y
-    shared-slice-read-y
+    (λ c. search needs)
+    (λ c. search needs)
+    (λ c. search needs)
+    (λ c. search needs)
     returns-2
     returns-3
-    add-i
-    loop-less
+    (λ c. search needs)
+    (λ c. search needs)
     loop-again
-    ended-requires-2
+    (λ c κs. search needs)
     returns-4
     returns-5)

@@ -2,15 +2,9 @@ use denote.Ref.{now}
 use mathlib.Core.Path.{sym, ap, _∙_}
 use borrow.Author.Needs.{needs}
 use lib.ListN.{length}
-use Rattle.paths.proofs.path_of.Tie as tie
+use Rattle.paths.proofs.path_of.Statement.{statement}
 use Rattle.paths.proofs.path_of.Tie as tie
 use Rattle.lists.proofs.Filled.{copied}
-use Rattle.paths.proofs.path_of.Statement.{statement}
-use Rattle.lists.proofs.Filled.{copied}
-use Rattle.paths.proofs.path_of.Statement.{statement}
-
-copy-requires : tie.Need-copy-requires
-copy-requires c κs = search needs
 
 path-into-requires : tie.Need-path-into-requires
 path-into-requires c κs =
@@ -24,12 +18,6 @@ path-into-requires c κs =
       small = rw (ap length e) (start .pre .small);
     }
 
-same-length : tie.Need-same-length
-same-length c = search needs
-
-same-length-2 : tie.Need-same-length-2
-same-length-2 c = search needs
-
 returns : tie.Need-returns
 returns c =
     let into = c .before .before .before .before in
@@ -40,4 +28,10 @@ returns c =
 
 pub path-of-spec : {M : Type 1} → statement M
 path-of-spec =
-    tie.close (tie.spec copy-requires path-into-requires same-length same-length-2 returns)
+    tie.close
+    (tie.spec
+    (λ c κs. search needs)
+    path-into-requires
+    (λ c. search needs)
+    (λ c. search needs)
+    returns)

@@ -18,9 +18,6 @@ abbrev μ-loop : tie.MeasureT-loop
 loop-holds : tie.Need-loop-holds Inv-loop μ-loop
 loop-holds c = along-start (c .pre) (λ a r. length a ≡ 0) refl
 
-shared-slice-read-at : tie.Need-shared-slice-read-at Inv-loop μ-loop
-shared-slice-read-at c = search needs
-
 cast-at : tie.Need-cast-at Inv-loop μ-loop
 cast-at c = omega (arith, c .shared-slice-known .given (c .before .before .loop .at))
 
@@ -55,7 +52,7 @@ count-spec =
     Inv-loop
     μ-loop
     loop-holds
-    shared-slice-read-at
+    (λ c. search needs)
     cast-at
     add-at
     add-n

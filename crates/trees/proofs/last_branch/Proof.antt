@@ -17,9 +17,6 @@ abbrev μ-loop : tie.MeasureT-loop
 loop-holds : tie.Need-loop-holds Inv-loop μ-loop
 loop-holds c = inside-start (c .pre) (λ t. Unit {0}) tt
 
-shared-slice-read-at : tie.Need-shared-slice-read-at Inv-loop μ-loop
-shared-slice-read-at c = search needs
-
 cast-at : tie.Need-cast-at Inv-loop μ-loop
 cast-at c = omega (arith, c .shared-slice-known .given (c .before .before .loop .at))
 
@@ -50,7 +47,7 @@ last-branch-spec =
     Inv-loop
     μ-loop
     loop-holds
-    shared-slice-read-at
+    (λ c. search needs)
     cast-at
     add-at
     loop-less

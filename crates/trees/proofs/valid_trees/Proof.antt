@@ -17,9 +17,6 @@ abbrev μ-loop : tie.MeasureT-loop
 loop-holds : tie.Need-loop-holds Inv-loop μ-loop
 loop-holds c = along-start (c .before .pre) ValidBefore refl
 
-shared-slice-read-next : tie.Need-shared-slice-read-next Inv-loop μ-loop
-shared-slice-read-next c = search needs
-
 cast-next : tie.Need-cast-next Inv-loop μ-loop
 cast-next c = omega (arith, c .shared-slice-known2 .given (c .before .before .loop .at))
 
@@ -27,12 +24,6 @@ add-next : tie.Need-add-next Inv-loop μ-loop
 add-next c =
     let n = along-next (c .before .before .loop .inv) (omega arith) in
     omega arith
-
-sub-valid-tree : tie.Need-sub-valid-tree Inv-loop μ-loop
-sub-valid-tree c = search needs
-
-part-valid-tree-start : tie.Need-part-valid-tree-start Inv-loop μ-loop
-part-valid-tree-start c = search needs
 
 part-valid-tree-end : tie.Need-part-valid-tree-end Inv-loop μ-loop
 part-valid-tree-end c =
@@ -73,11 +64,11 @@ valid-trees-spec =
     Inv-loop
     μ-loop
     loop-holds
-    shared-slice-read-next
+    (λ c. search needs)
     cast-next
     add-next
-    sub-valid-tree
-    part-valid-tree-start
+    (λ c. search needs)
+    (λ c. search needs)
     part-valid-tree-end
     valid-tree-requires
     returns

@@ -11,9 +11,9 @@ use Rattle.lists.proofs.Blocks.{exchanged-parts}
 use Rattle.patterns.specs.Tree.{Tree, point, merge, size, below, code, compareTree, lastAtMost}
 use Rattle.patterns.specs.Component.{Component, flat}
 use Rattle.patterns.proofs.Trees.{size-positive, length-below, length-code}
 use Rattle.trees.specs.Beginnings.{lastStart}
 use Rattle.trees.proofs.Walks.{flat-points, lastStart-within}
-use Rattle.generation.specs.HeldNodes.{HeldNeighbours}
+use Rattle.trees.specs.HeldNeighbours.{HeldNeighbours}
 
 module _ (s : List ℕ) (i : ℕ) (t u : Tree) (c : Component) (is : s ≡ flat (replicate i point ++ (t ∷ u ∷ c))) where
   abbrev front : List ℕ
