@@ -3,18 +3,21 @@
 use mathlib.Core.Path.{_≡_, refl, ap, ap₂, sym, _∙_}
 use mathlib.Core.Bool.{true, false}
 use mathlib.Core.List.{List, [], _∷_, _++_, append-assoc, append-nil}
-use Prim.Native.Nat.{ℕ, zero, suc, _+_, _-_, _≤_, _<_, compare}
+use Prim.Native.Nat.{ℕ, _+_, _-_, _≤_, _<_, compare}
 use native.Mathlib.Omega.{arith}
 use lib.ListN.{length, getD, set, take, drop, replicate, length-append, length-replicate, drop-of-length-le}
 use lib.Seq.{take-at, drop-at, getD-at, set-at, take-length}
 use Rattle.lists.specs.Order.{lex, atMost}
 use Rattle.lists.specs.Select.{place}
 use Rattle.lists.specs.Blocks.{exchanged}
+use Rattle.lists.proofs.Blocks.{exchanged-parts}
 use Rattle.patterns.specs.Tree.{Tree, point, merge, size, below, code, compareTree}
 use Rattle.patterns.specs.Component.{Component, points, flat, compareComponent}
 use Rattle.patterns.specs.Generation.{hasParent, parent, candidates}
 use Rattle.patterns.proofs.Trees.{size-positive, length-below, length-code, length-flat}
-use Rattle.components.specs.Held.{leadingPoints, Climbed}
+use Rattle.trees.specs.Beginnings.{leadingPoints}
+use Rattle.trees.proofs.Walks.{flat-points}
+use Rattle.components.specs.Climbs.{Climbed}
 use Rattle.components.specs.declared.Climb.the-variants.{Key}
 use Rattle.component_theory.proofs.Lemma8.{lead-hasParent, parent-lead}
 use Rattle.component_theory.proofs.Keys.{ordered-kept, key-left, key-right}
@@ -45,16 +48,19 @@ led (merge t u ∷ c) i = record { left = t; right = u; rest = c; trees = refl }
 pub led-at : (s : List ℕ) (h : ℕ) (c : Component) → s ≡ flat c → h ≡ leadingPoints c → h < length s → Led c h
 led-at s h c e q k = rw q (led c (omega (arith, ap length e, length-flat c)))
 
+-- the merged tree at h has its last branch b numbers further: both parts have points, and both stand within the numbers
+pub record Cut (s : List ℕ) (h b : ℕ) : Type 0 where
+  pub left-some : 0 < b
+  pub right-some : 0 < getD s (h + b) 0
+  pub number : getD s h 0 ≡ b + getD s (h + b) 0
+  pub fits : h + getD s h 0 ≤ length s
+
 -- leading points are leading ones
 abbrev ones : ℕ → List ℕ
 ones h = replicate h 1
 
 length-ones : (h : ℕ) → length (ones h) ≡ h
 length-ones h = length-replicate h 1
-
-flat-points : (h : ℕ) (c : Component) → flat (replicate h point ++ c) ≡ ones h ++ flat c
-flat-points zero c = refl
-flat-points (suc h) c = ap (λ l. 1 ∷ l) (flat-points h c)
 
 module _ {s : List ℕ} {h : ℕ} {c : Component} (v : Led c h) (e : s ≡ flat c) where
   abbrev t : Tree
@@ -78,10 +84,11 @@ module _ {s : List ℕ} {h : ℕ} {c : Component} (v : Led c h) (e : s ≡ flat 
   pub led-number : getD s h 0 ≡ size t + size u
   led-number = ap (λ l. getD l h 0) whole ∙ getD-at (ones h) (size t + size u) (below (merge t u) ++ flat r) 0 h (length-ones h)
 
-  pub led-fits : h + (size t + size u) ≤ length s
+  pub led-fits : h + getD s h 0 ≤ length s
   led-fits =
       omega (
         arith,
+        led-number,
         ap length whole,
         length-append (ones h) (code (merge t u) ++ flat r),
         length-append (code (merge t u)) (flat r),
@@ -103,6 +110,17 @@ module _ {s : List ℕ} {h : ℕ} {c : Component} (v : Led c h) (e : s ≡ flat 
     led-second =
         ap (λ l. getD l (h + b) 0) parts
         ∙ getD-at (ones h ++ ((size t + size u) ∷ below t)) (size u) (below u ++ flat r) 0 (h + b) (front-length (size t + size u) ∙ ap (λ k. h + k) (sym q))
+
+    pub led-cut : Cut s h b
+    led-cut =
+        let t-some = size-positive t in
+        let u-some = size-positive u in
+        record {
+          left-some = omega (arith, q);
+          right-some = omega (arith, led-second);
+          number = omega (arith, led-number, led-second, q);
+          fits = led-fits;
+        }
 
     -- both parts, one after the other
     unmerged : set s h (getD s h 0 - getD s (h + b) 0) ≡ ones h ++ (code t ++ (code u ++ flat r))
@@ -155,19 +173,10 @@ module _ {s : List ℕ} {h : ℕ} {c : Component} (v : Led c h) (e : s ≡ flat 
     -- the blocks of the two parts change places
     swapped : exchanged h (h + b) (h + getD s h 0) after ≡ ones h ++ (code u ++ (code t ++ flat r))
     swapped =
-        let n = h + getD s h 0 in
-        let P = ones h in
-        let ends : length ((P ++ code t) ++ code u) ≡ n = omega (arith, length-append (P ++ code t) (code u), left-length, length-code u, led-number) in
-        let all : after ≡ ((P ++ code t) ++ code u) ++ flat r = regrouped ∙ sym (append-assoc (P ++ code t) (code u) (flat r)) in
-        let taken : take n after ≡ (P ++ code t) ++ code u = ap (take n) all ∙ take-at ((P ++ code t) ++ code u) (flat r) n ends in
-        let dropped : drop n after ≡ flat r = ap (drop n) all ∙ drop-at ((P ++ code t) ++ code u) (flat r) n ends in
-        let second : drop (h + b) (take n after) ≡ code u = ap (drop (h + b)) taken ∙ drop-at (P ++ code t) (code u) (h + b) left-length in
-        let first : drop h (take (h + b) after) ≡ code t =
-        ap (λ l. drop h (take (h + b) l)) regrouped
-        ∙ ap (drop h) (take-at (P ++ code t) (code u ++ flat r) (h + b) left-length)
-        ∙ drop-at P (code t) h (length-ones h) in
-        let front : take h after ≡ P = ap (take h) unmerged ∙ take-at P (code t ++ (code u ++ flat r)) h (length-ones h) in
-        ap₂ _++_ front (ap₂ _++_ second (ap₂ _++_ first dropped))
+        let e = h + getD s h 0 in
+        ap (λ l. exchanged h (h + b) e l) unmerged
+        ∙ exchanged-parts (ones h) (code t) (code u) (flat r) h (h + b) e (length-ones h) (omega (arith, length-code t))
+        (omega (arith, length-code u, led-number))
 
     -- the second part is the lesser: a right merge
     pub climbed-right : {k : ℕ} → atMost compareTree t u ≡ false → k ≡ length c → Climbed c (Key (k + h)) (exchanged h (h + b) (h + getD s h 0) after)

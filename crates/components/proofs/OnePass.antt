@@ -17,7 +17,7 @@ use Rattle.patterns.specs.Component.{Component, points, flat, rotations, compar
 use Rattle.patterns.proofs.Trees.{length-flat, flat-append, points-append, compareTree-lawful}
 use Rattle.patterns.proofs.Rotations.{rotation-append, split-of-rotation}
 use Rattle.memory.specs.Memory.{Held}
-use Rattle.components.proofs.Walks.{Along, Next, next-tree, next-stretch, along-next, along-step, along-end, along-whole, no-trees}
+use Rattle.trees.proofs.Walks.{Along, Next, next-tree, next-stretch, along-next, along-step, along-end, along-whole, no-trees}
 use Rattle.components.proofs.Turning.{turned-trees}
 
 -- the trees so far are a prenecklace, whose period has so many points

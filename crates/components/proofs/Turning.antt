@@ -2,7 +2,7 @@
 use mathlib.Core.Path.{_≡_, refl, ap, ap₂, sym, _∙_}
 use mathlib.Core.Bool.{true, false}
 use mathlib.Core.List.{List, [], _∷_, _++_}
-use Prim.Native.Nat.{ℕ, _-_, _≤_, compare, Ordering·lt, Ordering·eq, Ordering·gt}
+use Prim.Native.Nat.{ℕ, _-_, _≤_, compare, Ordering}
 use native.Mathlib.Omega.{arith}
 use lib.Dec.{isLe}
 use lib.ListN.{length, take, drop, length-drop, take-append-drop}
@@ -16,7 +16,7 @@ use Rattle.patterns.specs.Component.{Component, points, flat, rotations, compar
 use Rattle.patterns.proofs.Trees.{length-flat, flat-append, compareComponent-flat}
 use Rattle.patterns.proofs.Rotations.{valid-trees}
 use Rattle.component_theory.proofs.Keys.{valid-if-least}
-use Rattle.components.proofs.Walks.{no-trees}
+use Rattle.trees.proofs.Walks.{no-trees}
 
 -- Numbers.
 
@@ -34,17 +34,10 @@ module _ (s : List ℕ) (p : ℕ) (h : p ≤ length s) where
       (length-take-le (n - p) s (omega arith) ∙ sym (length-drop p s))
       ∙ ap₂ (λ k l. then (lex compare (take (n - p) s) k) (lex compare l (take p s))) (sym first) (sym second)
 
-  pub turned-less : lex compare (take (length s - p) s) (take (length s - p) (drop p s)) ≡ Ordering·lt
-      → true ≡ atMost (lex compare) s (drop p s ++ take p s)
-  turned-less e = sym (ap isLe turned ∙ rw e)
-
-  pub turned-greater : lex compare (take (length s - p) s) (take (length s - p) (drop p s)) ≡ Ordering·gt
-      → false ≡ atMost (lex compare) s (drop p s ++ take p s)
-  turned-greater e = sym (ap isLe turned ∙ rw e)
-
-  pub turned-equal : lex compare (take (length s - p) s) (take (length s - p) (drop p s)) ≡ Ordering·eq
-      → atMost (lex compare) (take (length s - (length s - p)) (drop (length s - p) s)) (take p s) ≡ atMost (lex compare) s (drop p s ++ take p s)
-  turned-equal e = sym (ap isLe turned ∙ rw e)
+  -- the beginnings compare as o: then o decides, or the ends do
+  pub turned-by : (o : Ordering) → lex compare (take (length s - p) s) (take (length s - p) (drop p s)) ≡ o
+      → then o (lex compare (take (length s - (length s - p)) (drop (length s - p) s)) (take p s)) ≡ lex compare s (drop p s ++ take p s)
+  turned-by o e = sym (turned ∙ ap (λ k. then k (lex compare (take (length s - (length s - p)) (drop (length s - p) s)) (take p s))) e)
 
 -- Trees: a component cut in two, its numbers and its trees turned alike.
 pub turned-trees : (s : List ℕ) (a r : Component) (at : ℕ) → s ≡ flat (a ++ r) → at ≡ points a

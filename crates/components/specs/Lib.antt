@@ -1,2 +1,2 @@
--- What the functions of this crate mean beyond the definitions of mapping patterns.
-pub mod Held
+-- What the functions of this crate ask and answer.
+pub mod Climbs

@@ -1,5 +1,6 @@
 // The public entries of the marking engine. None relies on its caller: whatever tables, bytes and buffers come in, the reply and the content of every lent
 // buffer are those of the definitions [crates/patterns/specs/Entry.antt].
+use acceptance::accept_into;
 use census::Rows;
 use census::census as census_of;
 use census::fill;
@@ -15,7 +16,6 @@ pub use patterns::Row;
 pub use patterns::Successor;
 use patterns::points_room;
 use reading::Accepted;
-use acceptance::accept_into;
 use systems::Stepped;
 use systems::first_system;
 use systems::next_system;

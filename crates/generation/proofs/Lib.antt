@@ -2,4 +2,3 @@
 pub mod Merging
 pub mod Trying
 pub mod Scanning
-pub mod Following

@@ -1,26 +1,19 @@
 -- Two neighbouring trees behind i points, in numbers: where they stand, and what their merges are.
 use mathlib.Core.Path.{_≡_, refl, ap, ap₂, sym, _∙_}
 use mathlib.Core.List.{List, _∷_, _++_, append-assoc, append-nil}
-use Prim.Native.Nat.{ℕ, zero, suc, _+_, _-_, _≤_, _<_, compare}
+use Prim.Native.Nat.{ℕ, _+_, _-_, _≤_, _<_, compare}
 use native.Mathlib.Omega.{arith}
 use lib.ListN.{length, getD, set, take, drop, replicate, length-append, length-drop, length-replicate}
-use lib.Seq.{slice, take-at, drop-at, getD-at, set-at, drop-append-add, drop-append-le, take-length, drop-length}
+use lib.Seq.{take-at, drop-at, getD-at, set-at, drop-append-add, drop-append-le, take-length, drop-length}
 use Rattle.lists.specs.Order.{lex, atMost}
 use Rattle.lists.specs.Blocks.{exchanged}
+use Rattle.lists.proofs.Blocks.{exchanged-parts}
 use Rattle.patterns.specs.Tree.{Tree, point, merge, size, below, code, compareTree, lastAtMost}
 use Rattle.patterns.specs.Component.{Component, flat}
 use Rattle.patterns.proofs.Trees.{size-positive, length-below, length-code}
-use Rattle.components.specs.Held.{lastStart}
-use Rattle.generation.specs.Step.{Pair}
-
--- i points are i ones
-pub flat-points : (i : ℕ) (c : Component) → flat (replicate i point ++ c) ≡ replicate i 1 ++ flat c
-flat-points zero c = refl
-flat-points (suc i) c = ap (λ l. 1 ∷ l) (flat-points i c)
-
-pub lastStart-within : (u : Tree) → (0 < lastStart u) × (lastStart u ≤ size u)
-lastStart-within point = (omega arith, omega arith)
-lastStart-within (merge t v) = (size-positive t, omega arith)
+use Rattle.trees.specs.Beginnings.{lastStart}
+use Rattle.trees.proofs.Walks.{flat-points, lastStart-within}
+use Rattle.generation.specs.HeldNodes.{HeldNeighbours}
 
 module _ (s : List ℕ) (i : ℕ) (t u : Tree) (c : Component) (is : s ≡ flat (replicate i point ++ (t ∷ u ∷ c))) where
   abbrev front : List ℕ
@@ -86,14 +79,8 @@ module _ (s : List ℕ) (i : ℕ) (t u : Tree) (c : Component) (is : s ≡ flat 
   pair-exchanged =
       let j = i + getD s i 0 in
       let e = j + getD s j 0 in
-      let m : length (front ++ code t) ≡ j = omega (arith, this-length, this-size) in
-      let both : s ≡ ((front ++ code t) ++ code u) ++ flat c = this-before ∙ sym (append-assoc (front ++ code t) (code u) (flat c)) in
-      let n : length ((front ++ code t) ++ code u) ≡ e = omega (arith, length-append (front ++ code t) (code u), length-code u, that-size) in
-      let a : take i s ≡ front = ap (take i) parts ∙ take-at front (code t ++ (code u ++ flat c)) i ones in
-      let b : slice j e s ≡ code u = ap (λ l. drop j (take e l)) both ∙ ap (drop j) (take-at ((front ++ code t) ++ code u) (flat c) e n) ∙ drop-at (front ++ code t) (code u) j m in
-      let d : slice i j s ≡ code t = ap (λ l. drop i (take j l)) this-before ∙ ap (drop i) (take-at (front ++ code t) (code u ++ flat c) j m) ∙ drop-at front (code t) i ones in
-      let f : drop e s ≡ flat c = ap (drop e) both ∙ drop-at ((front ++ code t) ++ code u) (flat c) e n in
-      rw (a, b, d, f)
+      ap (λ l. exchanged i j e l) parts
+      ∙ exchanged-parts front (code t) (code u) (flat c) i j e ones (omega (arith, length-code t, this-size)) (omega (arith, length-code u, that-size))
 
   -- the right merge exchanges the two and changes the first number
   pub merged-right : let j = i + getD s i 0 in set (exchanged i j (j + getD s j 0) s) i (getD s j 0 + getD s i 0) ≡ flat (replicate i point ++ (merge u t ∷ c))
@@ -134,7 +121,7 @@ pub record Reach (s : List ℕ) (i : ℕ) (out : List ℕ) : Type 0 where
   pub small : length s ≤ 200
   pub room : length out ≡ length s
 
-pub reach : {s : List ℕ} {i : ℕ} {out : List ℕ} → Pair s i out → Reach s i out
+pub reach : {s : List ℕ} {i : ℕ} {out : List ℕ} → HeldNeighbours s i out → Reach s i out
 reach {s} {i} p =
     let n = this-size s i (p .this) (p .that) (p .after) (p .is) in
     let m = that-size s i (p .this) (p .that) (p .after) (p .is) in

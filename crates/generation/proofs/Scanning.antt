@@ -11,10 +11,10 @@ use Rattle.lists.proofs.Follow.{otherwise}
 use Rattle.patterns.specs.Tree.{Tree, point, merge}
 use Rattle.patterns.specs.Component.{Component, flat, validComponent}
 use Rattle.patterns.proofs.Trees.{flat-injective}
-use Rattle.components.specs.Held.{leadingPoints}
+use Rattle.trees.specs.Beginnings.{leadingPoints}
 use Rattle.component_theory.proofs.ChildPlaces.{childAt, childFrom, childFrom-step, childFrom-end, childFrom-lefts, childFrom-past, length-candidates}
 use Rattle.component_theory.proofs.Generation.{valid-positive}
-use Rattle.generation.specs.Step.{Node, Pair, Pairs, Gave, Passed}
+use Rattle.generation.specs.HeldNodes.{Node, HeldNeighbours, HeldScan, Gave, Passed}
 
 pub gave-path : {o q : Option Component} → o ≡ q → (r : Bool) (x : List ℕ) → Gave o r x → Gave q r x
 gave-path e r x g = subst (λ k. Gave k r x) e g
@@ -54,8 +54,8 @@ pub record Scanned (s : List ℕ) (k j : ℕ) (out₀ out : List ℕ) : Type 0 w
 pub scan-start : {s out : List ℕ} {k : ℕ} → Scanned s k k out out
 scan-start = record { room = refl; passed = λ c e. refl }
 
-module _ {s : List ℕ} {n h : ℕ} {out : List ℕ} (p : Pairs s n h out) where
-  pub pair-at : (i : ℕ) (x : List ℕ) → length x ≡ length out → i < n → i ≤ h → Pair s i x
+module _ {s : List ℕ} {n h : ℕ} {out : List ℕ} (p : HeldScan s n h out) where
+  pub pair-at : (i : ℕ) (x : List ℕ) → length x ≡ length out → i < n → i ≤ h → HeldNeighbours s i x
   pair-at i x e k l =
       let q = pair-after-points (p .trees) i (omega (arith, p .leads)) (omega (arith, p .counted)) in
       record {
@@ -148,7 +148,7 @@ module _ {s : List ℕ} (p : Node s) (m : ℕ) (counted : (c : Component) → s 
   pub some-trees : 0 < m
   some-trees = omega (arith, counted (p .trees) (p .is), valid-positive (p .trees) (p .valid))
 
-  pub node-pairs : (h : ℕ) (out : List ℕ) → length out ≡ length s → ((c : Component) → s ≡ flat c → h ≡ leadingPoints c) → Pairs s (m - 1) h out
+  pub node-pairs : (h : ℕ) (out : List ℕ) → length out ≡ length s → ((c : Component) → s ≡ flat c → h ≡ leadingPoints c) → HeldScan s (m - 1) h out
   node-pairs h out e leads = record {
     trees = p .trees;
     is = p .is;

@@ -11,18 +11,19 @@ use Rattle.lists.proofs.Tests.{no-both}
 use Rattle.patterns.specs.Tree.{point, merge, code, compareTree, lastAtMost}
 use Rattle.patterns.specs.Component.{Component, flat}
 use Rattle.patterns.proofs.Trees.{flat-injective}
-use Rattle.components.specs.Held.{lastStart}
+use Rattle.trees.specs.Beginnings.{lastStart}
+use Rattle.trees.proofs.Walks.{lastStart-within}
 use Rattle.component_theory.proofs.Keys.{isLeast}
 use Rattle.component_theory.proofs.ChildPlaces.{childAt, childAt-left, childAt-right}
-use Rattle.generation.specs.Step.{Pair, Gave}
-use Rattle.generation.proofs.Merging.{that-size, lastStart-within, this-stretch, that-stretch, last-stretch, last-branch-atMost}
+use Rattle.generation.specs.HeldNodes.{HeldNeighbours, Gave}
+use Rattle.generation.proofs.Merging.{that-size, this-stretch, that-stretch, last-stretch, last-branch-atMost}
 
 -- a candidate that passes is given
 pub gave-candidate : (b : Bool) (d : Component) (r : Bool) (x : List ℕ) → r ≡ b → (b ≡ true → x ≡ flat d) → Gave (first (cond b (d ∷ []) [])) r x
 gave-candidate true d r x e f = (e, f refl)
 gave-candidate false d r x e f = e
 
-module _ {s : List ℕ} {i : ℕ} {out : List ℕ} (p : Pair s i out) where
+module _ {s : List ℕ} {i : ℕ} {out : List ℕ} (p : HeldNeighbours s i out) where
   abbrev pub whole : Component
   whole = replicate i point ++ (p .this ∷ p .that ∷ p .after)
 

@@ -1,2 +1,2 @@
 -- What the functions of this crate ask and answer.
-pub mod Step
+pub mod HeldNodes

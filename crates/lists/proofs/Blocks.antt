@@ -99,3 +99,11 @@ exchanged-nothing l a b e q h k =
     let none : slice a b l ≡ [] = ap (λ i. slice i b l) q ∙ slice-empty b l in
     let whole : l ≡ take a l ++ ([] ++ (slice b e l ++ drop e l)) = rw none at (parts l a b e (omega arith) h k) in
     rw none whole
+
+-- the second and third of four parts change places
+pub exchanged-parts : (w x y z : List ℕ) (a b e : ℕ) → length w ≡ a → a + length x ≡ b → b + length y ≡ e
+    → exchanged a b e (w ++ (x ++ (y ++ z))) ≡ w ++ (y ++ (x ++ z))
+exchanged-parts w x y z a b e h k m =
+    sym (three-reversals (w ++ (x ++ (y ++ z))) a b e (omega arith) (omega arith)
+    (omega (arith, length-append w (x ++ (y ++ z)), length-append x (y ++ z), length-append y z)))
+    ∙ swap-parts w x y z a b e h k m

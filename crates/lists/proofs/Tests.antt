@@ -3,6 +3,8 @@ use mathlib.Core.Path.{_≡_, refl, ap, ap₂, sym, _∙_, subst}
 use mathlib.Core.Logic.{_⊎_, inl, inr}
 use mathlib.Core.Bool.{Bool, true, false, not, cond, _&&_, _||_, true≢false}
 use mathlib.Core.List.{List, [], _∷_, _++_, map, List·Memᴰ·head, List·Memᴰ·tail, List·Memᴰ·cases-cons, List·Memᴰ·not-nil}
+use Prim.Native.Nat.{ℕ}
+use native.Mathlib.Omega.{arith}
 use Rattle.lists.specs.Select.{each, some-of}
 pub use Rattle.lists.specs.Members.{_∈_}
 
@@ -157,3 +159,7 @@ each-same p q (x ∷ l) h = ap₂ (λ a b. cond a b false) (h x (List·Memᴰ·h
 pub each-map : {A B : Type 0} (f : A → B) (p : B → Bool) (l : List A) → each p (map f l) ≡ each (λ x. p (f x)) l
 each-map f p [] = refl
 each-map f p (x ∷ l) = rw (each-map f p l)
+
+-- An equation of two different constructors proves anything: cite it as `clash cc`, for `cc` finds the equation among the hypotheses and makes 0 ≡ 1 of it.
+pub clash {ℓ} : {P : Type ℓ} → _≡_ {A = ℕ} 0 1 → P
+clash e = absurd (omega arith)

@@ -12,7 +12,7 @@ use Rattle.lists.proofs.Tests.{by-test}
 use Rattle.patterns.specs.Tree.{Tree, size, code, compareTree}
 use Rattle.patterns.specs.Component.{Component, points, flat}
 use Rattle.patterns.proofs.Trees.{points-append, length-flat, length-code}
-use Rattle.components.proofs.Walks.{Along, Next, along-step, along-whole, along-end, along-length}
+use Rattle.trees.proofs.Walks.{Along, Next, along-step, along-whole, along-end, along-length}
 use Rattle.maps.specs.Images.{Stands}
 use Rattle.maps.specs.Plants.{Plant, shape, comparePlant}
 use Rattle.maps.specs.Writing.{Planted, pointsBefore}

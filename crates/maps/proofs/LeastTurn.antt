@@ -18,7 +18,7 @@ use Rattle.patterns.specs.Tree.{Tree, size}
 use Rattle.patterns.specs.Component.{Component, points, flat, compareComponent, rotations, nonempty}
 use Rattle.patterns.proofs.Trees.{size-positive, length-flat, flat-append, points-append, compareComponent-lawful, compareComponent-flat}
 use Rattle.patterns.proofs.Rotations.{cuts, rotation-append}
-use Rattle.components.proofs.Walks.{Along, Next, along-step, along-end, no-trees}
+use Rattle.trees.proofs.Walks.{Along, Next, along-step, along-end, no-trees}
 use Rattle.maps.specs.Writing.{LeastStart}
 
 -- a part of a list, and what follows it

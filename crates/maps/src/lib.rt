@@ -1,13 +1,13 @@
 // Tables: marking cycles, the code of a map with its points beside it, and the map of a code.
 use bytes::copy;
-use components::at_most;
-use components::compare_generated;
-use components::least_rotation;
+use components::has_least_rotation;
 use lists::Order;
 use lists::compare;
 use lists::exchange;
 use lists::set_all;
+use paths::compare_generated;
 use patterns::points_room;
+use trees::at_most;
 ghost use denote.Ref.{now};
 ghost use mathlib.Core.Path.{_≡_};
 ghost use mathlib.Core.Bool.{true, cond};
@@ -260,7 +260,7 @@ fn least_start(s: &[u8]) -> usize
     requires { ⌜ Held (now s) ⌝ }
     ensures { λ r. ⌜ ((c : Component) → now (s .entry) ≡ flat c → LeastStart c r) ⌝ }
 {
-    if least_rotation(s) {
+    if has_least_rotation(s) {
         return 0;
     }
     let mut best = 0;

@@ -1,12 +1,12 @@
 // A whole code in memory: whether it is canonical, the first one of n points, the step to the next, and the bytes of its written form.
 //
 // A system is two lent slices: `sizes`, the points of each component, and `numbers`, the flat components one after another.
-use components::compare_generated;
-use components::count;
 use components::valid_component;
-use generation::successor;
 use lists::Order;
 use lists::set_all;
+use paths::compare_generated;
+use succession::successor;
+use trees::count;
 use written::put_number;
 ghost use denote.Ref.{now};
 ghost use mathlib.Core.Path.{_≡_};
@@ -23,7 +23,7 @@ ghost use Rattle.component_theory.specs.Successor.{successor as successorOf};
 ghost use Rattle.written.specs.Putting.{Placed};
 ghost use Rattle.system_theory.specs.Step.{nextSizes, bump as bumpOf, step};
 ghost use Rattle.memory.specs.Memory.{Holds, HeldSystem};
-ghost use Rattle.components.specs.Held.{HeldPair};
+ghost use Rattle.paths.specs.HeldPaths.{HeldPair};
 ghost use Rattle.systems.specs.Held.{sum, SizesIn, NextIn, fillNumbers, HeldAhead, Advanced, HeldCanonical, Bumped, HeldStep, SteppedTo};
 ghost use Rattle.systems.specs.Held.{HeldRoom, HeldWritable, Wrote};
 

@@ -18,15 +18,15 @@ returns-2 c =
     let r = c .before .valid-trees in
     λ d e. valid-not-trees d (sym (r .ensures d e) ∙ not-of-true (r .result) (c .if2 .taken))
 
-least-rotation-requires : tie.Need-least-rotation-requires
-least-rotation-requires c κs = search needs
+has-least-rotation-requires : tie.Need-has-least-rotation-requires
+has-least-rotation-requires c κs = search needs
 
 returns-3 : tie.Need-returns-3
 returns-3 c =
     let r = c .before .before .valid-trees in
     let a = c .before .before .before .before .before .args in
-    λ d e. c .least-rotation .ensures d e ∙ valid-is-least (now (a .s)) (λ q. omega arith) d e (sym (r .ensures d e) ∙ not-of-false (r .result) (c .before .if2 .left))
+    λ d e. c .has-least-rotation .ensures d e ∙ valid-is-least (now (a .s)) (λ q. omega arith) d e (sym (r .ensures d e) ∙ not-of-false (r .result) (c .before .if2 .left))
 
 pub valid-component-spec : {M : Type 1} → statement M
 valid-component-spec =
-    tie.close (tie.spec returns valid-trees-requires returns-2 least-rotation-requires returns-3)
+    tie.close (tie.spec returns valid-trees-requires returns-2 has-least-rotation-requires returns-3)

@@ -3,7 +3,7 @@ use Rattle.lists.proofs.Tests.{not-of-true, not-of-false}
 use mathlib.Core.Path.{sym, _∙_}
 use Prim.Native.Nat.{_-_}
 use lib.ListN.{length}
-use Rattle.components.proofs.Walks.{Along, along-start, along-next}
+use Rattle.trees.proofs.Walks.{Along, along-start, along-next}
 use Rattle.maps.proofs.LeastTurn.{Best, best-start, best-within, best-kept, best-moved, best-end, least-already}
 use native.Mathlib.Omega.{arith}
 use borrow.Author.Needs.{needs}
@@ -16,12 +16,12 @@ Inv-loop s best₀ p₀ best p = Along s p (Best best)
 abbrev μ-loop : tie.MeasureT-loop
 μ-loop s best₀ p₀ best p = length s - p
 
-least-rotation-requires : tie.Need-least-rotation-requires Inv-loop μ-loop
-least-rotation-requires c κs = search needs
+has-least-rotation-requires : tie.Need-has-least-rotation-requires Inv-loop μ-loop
+has-least-rotation-requires c κs = search needs
 
 returns : tie.Need-returns Inv-loop μ-loop
 returns c =
-    let r = c .before .least-rotation in
+    let r = c .before .has-least-rotation in
     λ d e. least-already d (sym (r .ensures d e) ∙ c .if1 .taken)
 
 loop-holds : tie.Need-loop-holds Inv-loop μ-loop
@@ -67,7 +67,7 @@ least-start-spec =
     (tie.spec
     Inv-loop
     μ-loop
-    least-rotation-requires
+    has-least-rotation-requires
     returns
     loop-holds
     at-most-between-requires

@@ -3,7 +3,7 @@ use mathlib.Core.Path.{ap, sym, _∙_}
 use Prim.Native.Nat.{_-_, compare}
 use lib.ListN.{length}
 use Rattle.lists.specs.Order.{lex, atMost}
-use Rattle.components.proofs.Walks.{Along, along-start, along-next, next-stretch, along-length}
+use Rattle.trees.proofs.Walks.{Along, along-start, along-next, next-stretch, along-length}
 use Rattle.maps.proofs.Inserting.{Exceeds, exceeds-start, exceeds-stop, exceeds-step, exceeds-end}
 use native.Mathlib.Omega.{arith}
 use borrow.Author.Needs.{needs}

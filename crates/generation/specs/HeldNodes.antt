@@ -1,0 +1,58 @@
+-- What the functions of this crate ask of lent slices, and what their answers mean.
+use mathlib.Core.Path.{_≡_}
+use mathlib.Core.Bool.{Bool, true, false}
+use mathlib.Core.List.{List, _∷_, _++_}
+use mathlib.Core.Option.{Option, none, some}
+use Prim.Native.Nat.{ℕ, suc, _≤_}
+use lib.ListN.{length, replicate}
+use Rattle.lists.specs.Select.{otherwise}
+use Rattle.patterns.specs.Tree.{Tree, point}
+use Rattle.patterns.specs.Component.{Component, flat, validComponent}
+use Rattle.trees.specs.Beginnings.{leadingPoints}
+use Rattle.component_theory.proofs.ChildPlaces.{childFrom}
+
+-- a valid component of at most 200 points
+pub record Node (s : List ℕ) : Type 0 where
+  pub trees : Component
+  pub is : s ≡ flat trees
+  pub valid : validComponent trees ≡ true
+  pub small : length s ≤ 200
+
+-- a buffer of as many numbers
+abbrev pub AsLong : List ℕ → List ℕ → Type 0
+AsLong s out = length out ≡ length s
+
+-- c behind i points
+abbrev pub behind : ℕ → Component → Component
+behind i c = replicate i point ++ c
+
+-- a valid component of at most 200 points whose first i trees are points and that has two trees more, and a buffer of as many numbers
+pub record HeldNeighbours (s : List ℕ) (i : ℕ) (out : List ℕ) : Type 0 where
+  pub this : Tree
+  pub that : Tree
+  pub after : Component
+  pub is : s ≡ flat (behind i (this ∷ that ∷ after))
+  pub valid : validComponent (behind i (this ∷ that ∷ after)) ≡ true
+  pub small : length s ≤ 200
+  pub room : AsLong s out
+
+-- a valid component of at most 200 points with its numbers of pairs of neighbours and of leading points, and a buffer of as many numbers
+pub record HeldScan (s : List ℕ) (pairs lead : ℕ) (out : List ℕ) : Type 0 where
+  pub trees : Component
+  pub is : s ≡ flat trees
+  pub valid : validComponent trees ≡ true
+  pub small : length s ≤ 200
+  pub room : AsLong s out
+  pub counted : length trees ≡ suc pairs
+  pub leads : leadingPoints trees ≡ lead
+
+-- a component, if there is one, was written to a buffer, and r says whether there is
+abbrev pub Gave : Option Component → Bool → List ℕ → Type 0
+Gave none r out = r ≡ false
+Gave (some d) r out = (r ≡ true) × (out ≡ flat d)
+
+-- the first child of c from place k on was written, or there is none at a place before j
+pub record Passed (c : Component) (k j : ℕ) (r : Bool) (out : List ℕ) : Type 0 where
+  pub found : Option Component
+  pub gave : Gave found r out
+  pub is : childFrom c k ≡ otherwise found (childFrom c j)

@@ -1,0 +1,2 @@
+-- The theory of this layer.
+pub mod Walks
