@@ -5,7 +5,7 @@ use native.Mathlib.Omega.{arith}
 use borrow.Author.Needs.{needs}
 use borrow.Fn.Kinds.{In}
 use borrow.Fn.PlainCycle.{Measures, is, falls, and}
-use Rattle.tree_reading.proofs.Walking.{tree-ended, tree-empty, tree-large, tree-leaf, tree-branches, tree-past, branches-none, branches-refused, branches-next}
+use Rattle.tree_reading.proofs.TreesRead.{tree-ended, tree-empty, tree-large, tree-leaf, tree-branches, tree-past, branches-none, branches-refused, branches-next}
 use Rattle.tree_reading.proofs.read_branches.Reads as branches
 use Rattle.tree_reading.proofs.read_branches.Kinds as branches-kinds
 use Rattle.tree_reading.proofs.+read_branches+read_tree.Lts-read_branches as branches-lts
