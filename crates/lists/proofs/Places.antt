@@ -3,9 +3,10 @@ use mathlib.Core.Path.{_≡_, refl, ap, ap₂, sym, _∙_}
 use mathlib.Core.List.{List, [], _∷_, _++_, List·Memᴰ·head, List·Memᴰ·tail}
 use mathlib.Core.Bool.{false}
 use Prim.Native.Nat.{ℕ, zero, suc, _+_, _≤_, _<_, Ordering, compare}
+use native.Mathlib.Numerals.{add-one}
 use native.Mathlib.Omega.{arith}
-use lib.ListN.{length, getD, length-append}
-use lib.Seq.{getD-append-seam}
+use lib.ListN.{length, drop, getD, length-append}
+use lib.Seq.{drop-cons, getD-append-seam}
 use Rattle.lists.specs.Order.{same}
 use Rattle.lists.specs.Select.{first, next, place, from, range, times}
 use Rattle.lists.proofs.Tests.{_∈_, by-test, either, no-both}
@@ -147,3 +148,7 @@ nodup-times (x ∷ l) h =
     one {x = x} {l = l}
     (λ m. omega (arith, times-in m, rw (compare-decides .self x) at (h x)))
     (nodup-times l (λ y. omega (arith, h y)))
+
+-- from a place on: what stands there, and what comes behind it
+pub drop-one : {A : Type 0} (d : A) (s : List A) (i : ℕ) → i < length s → drop i s ≡ getD s i d ∷ drop (i + 1) s
+drop-one d s i h = rw (add-one i) (drop-cons s i d h)

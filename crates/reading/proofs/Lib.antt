@@ -1,6 +1,6 @@
 -- The laws of reading a code, in plain terms; the proofs of the functions cite them.
 pub mod Narrowing
-pub mod Gathering
+pub mod ComponentsRead
 pub mod Prefix
 pub mod Whole
 pub mod Kept

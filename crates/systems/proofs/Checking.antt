@@ -4,11 +4,10 @@ use mathlib.Core.Logic.{_⊎_, inl, inr}
 use mathlib.Core.Bool.{true, false, _&&_, true≢false}
 use mathlib.Core.List.{List, [], _∷_}
 use Prim.Native.Nat.{ℕ, _+_, _-_, _≤_, _<_}
-use native.Mathlib.Numerals.{add-one}
 use native.Mathlib.Omega.{arith}
 use lib.ListN.{length, take, drop, getD, drop-of-length-le}
-use lib.Seq.{drop-cons}
 use Rattle.lists.specs.Order.{atMost}
+use Rattle.lists.proofs.Places.{drop-one}
 use Rattle.patterns.specs.Component.{Component, points, flat, validComponent}
 use Rattle.patterns.specs.System.{System, weight, compareGenerated, inOrder, canonical}
 use Rattle.patterns.proofs.Trees.{size-positive, length-flat}
@@ -59,7 +58,7 @@ module _ {sizes trees : List ℕ} {last at i : ℕ} (w : Checking sizes trees la
     further : canonical S ≡ (validComponent c && atMost compareGenerated (w .p) c && inOrder c (drop (i + 1) S))
     unfolding inOrder
     further =
-        let d : drop i S ≡ c ∷ drop (i + 1) S = rw (add-one i) (drop-cons S i [] (omega (arith, held-count (w .held .holds)))) in
+        let d : drop i S ≡ c ∷ drop (i + 1) S = drop-one [] S i (omega (arith, held-count (w .held .holds))) in
         w .order ∙ ap (inOrder (w .p)) d
 
     -- it is not valid

@@ -8,6 +8,7 @@ use lib.ListN.{length, drop, getD, drop-of-length-le}
 use lib.Seq.{drop-drop}
 use borrow.Author.Tests.{lt-ltb, le-ltb, ne-eqb}
 use Rattle.lists.proofs.Tests.{clash}
+use Rattle.lists.proofs.Places.{drop-one}
 use Rattle.patterns.specs.declared.Refusal.{Refusal}
 use Rattle.patterns.specs.declared.Refusal.the-variants.{Truncated, Sizes}
 use Rattle.patterns.specs.Tree.{Tree, size}
@@ -19,7 +20,6 @@ use Rattle.tree_reading.specs.declared.Read.the-variants.{Past, Refused}
 use Rattle.tree_reading.specs.Walking.{walked, walkedAll, readComponent}
 use Rattle.form_theory.proofs.Results.{mapped-none, mapped-more}
 use Rattle.form_theory.proofs.ReadFrom.{tree-read}
-use Rattle.tree_reading.proofs.Walking.{drop-one}
 
 -- i of k trees have been read, from place `at` to place `next`, and `rest` points are left.
 pub record Along (s : List ℕ) (at k left next rest i : ℕ) : Type 0 where
@@ -103,13 +103,13 @@ module _ (s : List ℕ) (at left : ℕ) where
 
   pub component-empty : at < length s → getD s at 0 ≡ 0 → Refused Sizes ≡ walkedAll (at + 1) (readComponent left (drop at s))
   unfolding readComponent
-  component-empty h e = rw (drop-one s at h, e)
+  component-empty h e = rw (drop-one 0 s at h, e)
 
   pub component-large : at < length s → 0 < getD s at 0 → left < getD s at 0 → Refused Sizes ≡ walkedAll (at + 1) (readComponent left (drop at s))
   unfolding readComponent
-  component-large h p e = rw (drop-one s at h, ne-eqb (getD s at 0) 0 (λ z. omega arith), lt-ltb left (getD s at 0) e)
+  component-large h p e = rw (drop-one 0 s at h, ne-eqb (getD s at 0) 0 (λ z. omega arith), lt-ltb left (getD s at 0) e)
 
   pub component-trees : at < length s → 0 < getD s at 0 → getD s at 0 ≤ left
       → walkedAll (at + 1) (readTrees (getD s at 0) left (drop (at + 1) s)) ≡ walkedAll (at + 1) (readComponent left (drop at s))
   unfolding readComponent
-  component-trees h p e = rw (drop-one s at h, ne-eqb (getD s at 0) 0 (λ z. omega arith), le-ltb left (getD s at 0) e)
+  component-trees h p e = rw (drop-one 0 s at h, ne-eqb (getD s at 0) 0 (λ z. omega arith), le-ltb left (getD s at 0) e)

@@ -1,3 +1,3 @@
 -- The laws of reading trees and components, in plain terms; the proofs of the functions cite them.
-pub mod Walking
+pub mod TreesRead
 pub mod Along

@@ -3,14 +3,14 @@
 use mathlib.Core.Path.{_≡_, refl, ap, sym, _∙_, subst}
 use mathlib.Core.Bool.{Bool, true, false, _||_, true≢false}
 use mathlib.Core.List.{List, [], _∷_, _++_, append-nil}
-use Prim.Native.Nat.{ℕ, zero, suc, _+_, _-_, _*_, _≤_, _<_}
-use native.Mathlib.Numerals.{add-one}
+use Prim.Native.Nat.{ℕ, suc, _+_, _-_, _*_, _≤_, _<_}
 use native.Mathlib.Omega.{arith}
 use lib.Dec.{ltb, leb, eqb}
-use lib.ListN.{length, take, drop, getD, set, length-append, length-take, length-drop, length-set, drop-of-length-le}
-use lib.Seq.{drop-cons, drop-drop, take-all, take-append-le, take-nil, take-take, set-at, append-snoc, getD-drop}
+use lib.ListN.{length, drop, getD, set, length-append, length-drop, length-set, drop-of-length-le}
+use lib.Seq.{drop-cons, drop-drop, take-all, take-append-le, take-nil, set-at, append-snoc, getD-drop}
 use borrow.Author.Tests.{lt-ltb, le-ltb, le-leb, lt-leb, ne-eqb, leb-false}
-use Rattle.lists.proofs.Tests.{by-test}
+use Rattle.lists.proofs.Tests.{by-test, clash}
+use Rattle.lists.proofs.Places.{drop-one}
 use Rattle.patterns.specs.declared.Refusal.{Refusal}
 use Rattle.patterns.specs.declared.Refusal.the-variants.{Truncated, NumberForm}
 use Rattle.patterns.specs.Reading.{Result, done, fault, mapped, cut}
@@ -20,17 +20,14 @@ use Rattle.written.specs.Cutting.{headCut, cutReply, stored, CutInto}
 
 -- The number at a place, by what its bytes are.
 
-drop-one : (s : List ℕ) (i : ℕ) → i < length s → drop i s ≡ getD s i 0 ∷ drop (i + 1) s
-drop-one s i h = rw (add-one, drop-cons s i 0)
-
 drop-two : (s : List ℕ) (i : ℕ) → i + 1 < length s → drop i s ≡ getD s i 0 ∷ getD s (i + 1) 0 ∷ drop (i + 2) s
 drop-two s i h =
     let e : i + 1 + 1 ≡ i + 2 = omega arith in
-    rw (drop-one s i (omega arith), drop-one s (i + 1) h, e)
+    rw (drop-one 0 s i (omega arith), drop-one 0 s (i + 1) h, e)
 
 -- a byte below 128 is a number
 pub head-one : (s : List ℕ) (at : ℕ) → at < length s → getD s at 0 < 128 → headCut at (drop at s) ≡ Number (getD s at 0) (at + 1)
-head-one s at h k = rw (drop-one s at h) (below at (getD s at 0) (drop (at + 1) s) k)
+head-one s at h k = rw (drop-one 0 s at h) (below at (getD s at 0) (drop (at + 1) s) k)
   where
     below : (at x : ℕ) (l : List ℕ) → x < 128 → headCut at (x ∷ l) ≡ Number x (at + 1)
     below at x [] k = rw (lt-ltb x 128 k)
@@ -38,7 +35,7 @@ head-one s at h k = rw (drop-one s at h) (below at (getD s at 0) (drop (at + 1) 
 
 -- a byte from 128 on is not the last
 pub head-ended : (s : List ℕ) (at : ℕ) → at < length s → 128 ≤ getD s at 0 → length s ≤ at + 1 → headCut at (drop at s) ≡ Refused Truncated
-head-ended s at h k e = rw (drop-one s at h, drop-of-length-le s {i = at + 1} e, le-ltb (getD s at 0) 128 k)
+head-ended s at h k e = rw (drop-one 0 s at h, drop-of-length-le s {i = at + 1} e, le-ltb (getD s at 0) 128 k)
 
 -- after it the second byte is neither 0 ..
 pub head-zero : (s : List ℕ) (at : ℕ) → at + 1 < length s → 128 ≤ getD s at 0 → getD s (at + 1) 0 ≡ 0 → headCut at (drop at s) ≡ Refused NumberForm
@@ -123,42 +120,7 @@ small at (x ∷ y ∷ l) b =
 pub number-small : (s : List ℕ) (at x next : ℕ) → ((i : ℕ) → getD s i 0 < 256) → headCut at (drop at s) ≡ Number x next → x < 16384
 number-small s at x next b e = subst Small e (small at (drop at s) (λ i. rw getD-drop (b (at + i))))
 
-abbrev Smalls : Result (List ℕ) → Type 0
-Smalls (done xs) = (i : ℕ) → getD xs i 0 < 16384
-Smalls (fault c) = Unit {0}
-
-smalls-cons : (x : ℕ) → x < 16384 → (r : Result (List ℕ)) → Smalls r → Smalls (mapped (x ∷_) r)
-smalls-cons x h (done xs) k = at
-  where
-    at : (i : ℕ) → getD (x ∷ xs) i 0 < 16384
-    at zero = h
-    at (suc i) = k i
-smalls-cons x h (fault c) k = tt
-
-smalls : (s : List ℕ) → ((i : ℕ) → getD s i 0 < 256) → Smalls (cut s)
-unfolding cut
-smalls [] b = λ i. omega arith
-smalls (x ∷ []) b = by-test (ltb x 128) (λ t. rw t (smalls-cons x (omega (arith, b 0)) (done []) (λ i. omega arith))) (λ t. rw t tt)
-smalls (x ∷ y ∷ l) b =
-    by-test (ltb x 128)
-    (λ t. rw t (smalls-cons x (omega (arith, b 0)) (cut (y ∷ l)) (smalls (y ∷ l) (λ i. b (suc i)))))
-    (λ t.
-    by-test (eqb y 0 || leb 128 y)
-    (λ u. rw (t, u) tt)
-    (λ u. rw (t, u) (smalls-cons (x - 128 + y * 128) (omega (arith, b 0, second-low y u)) (cut l) (smalls l (λ i. b (suc (suc i)))))))
-
--- each number of all
-pub cut-small : (s xs : List ℕ) → ((i : ℕ) → getD s i 0 < 256) → cut s ≡ done xs → (i : ℕ) → getD xs i 0 < 16384
-cut-small s xs b e = subst Smalls e (smalls s b)
-
 -- The output: as many numbers as fit.
-pub stored-length : (xs out : List ℕ) → length (stored xs out) ≡ length out
-stored-length xs out = simp (length-append, length-take, length-drop) (omega arith)
-
--- the numbers that are there are those that were cut
-pub stored-take : (xs out : List ℕ) (k : ℕ) → k ≤ length xs → k ≤ length out → take k (stored xs out) ≡ take k xs
-stored-take xs out k h g =
-    take-append-le k (take (length out) xs) (drop (length xs) out) (rw length-take (omega arith)) ∙ take-take k (length out) xs g
 
 -- one more number, where there is a place for it
 stored-set : (xs out : List ℕ) (n x : ℕ) → length xs ≡ n → n < length out → set (stored xs out) n x ≡ stored (xs ++ (x ∷ [])) out
@@ -242,7 +204,7 @@ module _ {s before out : List ℕ} {at n : ℕ} (w : Cutting s before out at n) 
   pub cutting-refused : (c : Refusal) → at < length s → headCut at (drop at s) ≡ Refused c → CutInto s before (Refused c) out
   cutting-refused c h e =
       let f : cut s ≡ fault c = w .rest ∙ ap (mapped (w .had ++_)) (cut-refused s at h c e) in
-      record { same = w .same; reply = rw f; output = λ xs g. absurd (let z : _≡_ {A = ℕ} 0 1 = cc in omega arith) }
+      record { same = w .same; reply = rw f; output = λ xs g. clash cc }
 
   -- no byte is left
   pub cutting-end : length s ≤ at → CutInto s before (Number n at) out
@@ -265,12 +227,12 @@ numbers-cut {s} {before} {after} {n} {e} r = found (cut s) refl (r .reply)
     found : (o : Result (List ℕ)) → cut s ≡ o → Number n e ≡ cutReply (length s) o
         → (xs : List ℕ) × (cut s ≡ done xs) × (length xs ≡ n) × (after ≡ stored xs before)
     found (done xs) p q = (xs, p, cc, r .output xs p)
-    found (fault c) p q = absurd (let z : _≡_ {A = ℕ} 0 1 = cc in omega arith)
+    found (fault c) p q = clash cc
 
 -- A slice that was refused: its cut has that cause.
 pub refusal-cut : {s before after : List ℕ} {c : Refusal} → CutInto s before (Refused c) after → cut s ≡ fault c
 refusal-cut {s} {before} {after} {c} r = found (cut s) refl (r .reply)
   where
     found : (o : Result (List ℕ)) → cut s ≡ o → Refused c ≡ cutReply (length s) o → cut s ≡ fault c
-    found (done xs) p q = absurd (let z : _≡_ {A = ℕ} 0 1 = cc in omega arith)
+    found (done xs) p q = clash cc
     found (fault d) p q = let k : c ≡ d = cc in p ∙ ap fault (sym k)

@@ -1,15 +1,13 @@
 -- Lists that stand in a lent output from a place on, numbers written there, and a result put into the first places or refused for want of room.
 use mathlib.Core.Path.{_≡_, refl, ap, ap₂, sym, _∙_}
 use mathlib.Core.List.{List, [], _∷_, _++_, append-assoc}
-use Prim.Native.Nat.{ℕ, suc, _+_, _/_, _%_, _≤_, _<_}
+use Prim.Native.Nat.{ℕ, _+_, _/_, _%_, _≤_, _<_}
 use native.Mathlib.Nat.{add-zero}
 use native.Mathlib.Numerals.{add-one}
 use native.Mathlib.Omega.{arith}
 use lib.ListN.{length, take, drop, set, length-append, length-take, length-drop, take-append-drop}
 use lib.Seq.{set-split, take-at, drop-at, drop-drop, take-length, length-take-le}
-use lib.Dec.{ltb}
 use borrow.Author.Tests.{lt-ltb, le-ltb, le-leb, lt-leb}
-use Rattle.lists.proofs.Tests.{by-test}
 use Rattle.patterns.specs.Written.{writeNumber}
 use Rattle.patterns.specs.Entry.{gives, Replied}
 use Rattle.patterns.specs.Replies.{length-is, refused}
@@ -59,9 +57,6 @@ number-short x h = rw (lt-ltb x 128 h)
 
 pub number-long : (x : ℕ) → 128 ≤ x → writeNumber x ≡ (x % 128 + 128) ∷ x / 128 ∷ []
 number-long x h = rw (le-ltb x 128 h)
-
-pub number-length : (x : ℕ) → (0 < length (writeNumber x)) × (length (writeNumber x) ≤ 2)
-number-length x = by-test (ltb x 128) (λ t. rw t (omega arith, omega arith)) (λ t. rw t (omega arith, omega arith))
 
 -- a number of one byte
 pub put-short : (x at : ℕ) (d : List ℕ) → x < 128 → at + length (writeNumber x) ≤ length d → Placed (writeNumber x) at d (at + 1) (set d at x)

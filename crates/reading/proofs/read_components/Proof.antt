@@ -3,8 +3,8 @@ use Prim.Native.Nat.{ℕ, _-_}
 use native.Mathlib.Omega.{arith}
 use borrow.Author.Needs.{needs}
 use Rattle.patterns.specs.Component.{Component}
-use Rattle.reading.proofs.Gathering.{ComponentAt, component-at, component-bytes}
-use Rattle.reading.proofs.Gathering.{Gathering, gathering-start, gathering-room, gathering-next, gathering-refused, gathering-over, gathering-end}
+use Rattle.reading.proofs.ComponentsRead.{ComponentAt, component-at, component-bytes}
+use Rattle.reading.proofs.ComponentsRead.{Gathering, gathering-start, gathering-room, gathering-next, gathering-refused, gathering-over, gathering-end}
 use Rattle.reading.proofs.read_components.Statement.{statement}
 use Rattle.reading.proofs.read_components.Tie as tie
 

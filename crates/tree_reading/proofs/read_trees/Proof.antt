@@ -3,7 +3,7 @@ use mathlib.Core.Path.{sym, _∙_}
 use Prim.Native.Nat.{ℕ, suc, _+_, _-_, _≤_, _<_}
 use native.Mathlib.Omega.{arith}
 use borrow.Author.Needs.{needs}
-use Rattle.tree_reading.proofs.Walking.{tree-past}
+use Rattle.tree_reading.proofs.TreesRead.{tree-past}
 use Rattle.tree_reading.proofs.Along.{Along, along-start, along-next, along-refused, along-end}
 use Rattle.tree_reading.proofs.read_trees.Statement.{statement}
 use Rattle.tree_reading.proofs.read_trees.Tie as tie

@@ -1,11 +1,13 @@
 use denote.Ref.{now}
-use mathlib.Core.Path.{sym, subst, _∙_}
+use mathlib.Core.Path.{_≡_, sym, subst, _∙_}
 use mathlib.Core.Logic.{⊎-elim}
-use Prim.Native.Nat.{_-_}
+use mathlib.Core.List.{List}
+use Prim.Native.Nat.{ℕ, _-_}
 use native.Mathlib.Omega.{arith}
 use borrow.Author.Needs.{needs}
-use lib.ListN.{length}
-use Rattle.written.specs.Cutting.{CutInto}
+use lib.ListN.{length, drop}
+use Rattle.written.specs.declared.Cut.the-variants.{Number}
+use Rattle.written.specs.Cutting.{headCut, CutInto}
 use Rattle.written.proofs.Cutting.{Cutting, cutting-start, cutting-take, cutting-pass, cutting-refused, cutting-end, cut-number, number-small}
 use Rattle.written.proofs.cut_into.Statement.{statement}
 use Rattle.written.proofs.cut_into.Tie as tie
@@ -16,17 +18,27 @@ Inv-loop s out₀ at₀ n₀ out at n = Cutting s out₀ out at n
 abbrev μ-loop : tie.MeasureT-loop
 μ-loop s out₀ at₀ n₀ out at n = length s - at
 
+-- The place where a number has been cut in this turn, the number and the place after it.
+abbrev Found : Type 0
+Found = tie.After-known-told Inv-loop μ-loop
+
+abbrev turn : Found → tie.At-loop Inv-loop μ-loop
+turn c = c .before .before .before .before .before
+
+abbrev S : Found → List ℕ
+S c = now ((turn c) .before .before .before .args .s)
+
+abbrev X : Found → ℕ
+X c = c .before .number .given .0 .0
+
+abbrev Next : Found → ℕ
+Next c = c .before .number .given .0 .1 .0
+
+number-is : (c : Found) → headCut ((turn c) .loop .at) (drop ((turn c) .loop .at) (S c)) ≡ Number (X c) (Next c)
+number-is c = sym (c .before .before .before .cut-at .ensures) ∙ c .before .number .given .1
+
 loop-holds : tie.Need-loop-holds Inv-loop μ-loop
 loop-holds c = cutting-start (now (c .before .before .args .s)) (now (c .before .before .args .out))
-
-cut-at-requires : tie.Need-cut-at-requires Inv-loop μ-loop
-cut-at-requires c κs = search needs
-
-enum-known-number : tie.Need-enum-known-number Inv-loop μ-loop
-enum-known-number c = search needs
-
-enum-told : tie.Need-enum-told Inv-loop μ-loop
-enum-told c = search needs
 
 same-length : tie.Need-same-length Inv-loop μ-loop
 same-length c = c .before .before .before .before .loop .inv .same
@@ -44,44 +56,23 @@ returns c =
 
 cast-out : tie.Need-cast-out Inv-loop μ-loop
 cast-out c =
-    let l = c .before .before .before .before .before .before .loop in
-    let a = c .before .before .before .before .before .before .before .before .before .args in
-    let number = c .before .before .number .given in
-    let e = sym (c .before .before .before .before .cut-at .ensures) ∙ number .1 in
-    let bytes = c .before .before .before .before .before .before .before .before .shared-slice-known .given in
-    let small = number-small (now (a .s)) (l .at) (number .0 .0) (number .0 .1 .0) (λ i. omega (arith, bytes i)) e in
-    omega arith
-
-mul-out : tie.Need-mul-out Inv-loop μ-loop
-mul-out c = search needs
-
-slice-write-out : tie.Need-slice-write-out Inv-loop μ-loop
-slice-write-out c = search needs
-
-add-n : tie.Need-add-n Inv-loop μ-loop
-add-n c = search needs
+    let f : Found = c .before in
+    let bytes = (turn f) .before .before .shared-slice-known .given in
+    omega (arith, number-small (S f) ((turn f) .loop .at) (X f) (Next f) (λ i. omega (arith, bytes i)) (number-is f))
 
 loop-less : tie.Need-loop-less Inv-loop μ-loop
 loop-less c =
-    let l = c .before .before .before .before .before .before .loop in
-    let a = c .before .before .before .before .before .before .before .before .before .args in
-    let number = c .before .before .number .given in
-    let e = sym (c .before .before .before .before .cut-at .ensures) ∙ number .1 in
-    let step = cut-number (now (a .s)) (l .at) (omega arith) (number .0 .0) (number .0 .1 .0) e in
-    omega arith
+    let f : Found = c .before in
+    omega (arith, cut-number (S f) ((turn f) .loop .at) (omega arith) (X f) (Next f) (number-is f))
 
 loop-again : tie.Need-loop-again Inv-loop μ-loop
 loop-again c =
-    let l = c .before .before .before .before .before .before .loop in
-    let number = c .before .before .number .given in
-    let e = sym (c .before .before .before .before .cut-at .ensures) ∙ number .1 in
+    let f : Found = c .before in
+    let inv = (turn f) .loop .inv in
     ⊎-elim
-    (λ v. rw (v .1) (cutting-take (l .inv) (number .0 .0) (number .0 .1 .0) (omega arith) e (omega (arith, v .0 .taken))))
-    (λ v. rw (v .1) (cutting-pass (l .inv) (number .0 .0) (number .0 .1 .0) (omega arith) e (omega (arith, v .0 .left))))
+    (λ v. rw (v .1) (cutting-take inv (X f) (Next f) (omega arith) (number-is f) (omega (arith, v .0 .taken))))
+    (λ v. rw (v .1) (cutting-pass inv (X f) (Next f) (omega arith) (number-is f) (omega (arith, v .0 .left))))
     (c .if1 .came)
-
-same-length-2 : tie.Need-same-length-2 Inv-loop μ-loop
-same-length-2 c = c .before .loop .inv .same
 
 returns-2 : tie.Need-returns-2 Inv-loop μ-loop
 returns-2 c = cutting-end (c .before .loop .inv) (omega arith)
@@ -93,16 +84,16 @@ cut-into-spec =
     Inv-loop
     μ-loop
     loop-holds
-    cut-at-requires
-    enum-known-number
-    enum-told
+    (λ c κs. search needs)
+    (λ c. search needs)
+    (λ c. search needs)
     same-length
     returns
     cast-out
-    mul-out
-    slice-write-out
-    add-n
+    (λ c. search needs)
+    (λ c. search needs)
+    (λ c. search needs)
     loop-less
     loop-again
-    same-length-2
+    (λ c. c .before .loop .inv .same)
     returns-2)

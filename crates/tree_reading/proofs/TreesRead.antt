@@ -2,12 +2,12 @@
 use mathlib.Core.Path.{_≡_, refl, ap, sym, _∙_}
 use mathlib.Core.List.{List, _∷_}
 use Prim.Native.Nat.{ℕ, zero, suc, _+_, _-_, _≤_, _<_}
-use native.Mathlib.Numerals.{add-one}
 use native.Mathlib.Omega.{arith}
 use lib.ListN.{length, drop, getD, drop-of-length-le}
-use lib.Seq.{drop-cons, drop-drop}
+use lib.Seq.{drop-drop}
 use borrow.Author.Tests.{lt-ltb, le-ltb, eq-eqb, ne-eqb}
 use Rattle.lists.proofs.Tests.{clash}
+use Rattle.lists.proofs.Places.{drop-one}
 use Rattle.patterns.specs.declared.Refusal.{Refusal}
 use Rattle.patterns.specs.declared.Refusal.the-variants.{Truncated, Sizes}
 use Rattle.patterns.specs.Tree.{Tree, size, graft}
@@ -19,9 +19,6 @@ use Rattle.tree_reading.specs.declared.Read.the-variants.{Past, Refused}
 use Rattle.tree_reading.specs.Walking.{walked, walkedAll}
 use Rattle.form_theory.proofs.ReadFrom.{tree-read}
 
-pub drop-one : (s : List ℕ) (i : ℕ) → i < length s → drop i s ≡ getD s i 0 ∷ drop (i + 1) s
-drop-one s i h = rw (add-one, drop-cons s i 0)
-
 -- A tree, by its first number.
 module _ (s : List ℕ) (at limit : ℕ) where
   pub tree-ended : (f : ℕ) → limit + limit < f → length s ≤ at → Refused Truncated ≡ walked at (readTree f limit (drop at s))
@@ -32,12 +29,12 @@ module _ (s : List ℕ) (at limit : ℕ) where
   pub tree-empty : (f : ℕ) → limit + limit < f → at < length s → getD s at 0 ≡ 0 → Refused Sizes ≡ walked at (readTree f limit (drop at s))
   unfolding readTree
   tree-empty zero h k e = absurd (omega arith)
-  tree-empty (suc f) h k e = rw (drop-one s at k, e)
+  tree-empty (suc f) h k e = rw (drop-one 0 s at k, e)
 
   pub tree-large : (f : ℕ) → limit + limit < f → at < length s → 0 < getD s at 0 → limit < getD s at 0 → Refused Sizes ≡ walked at (readTree f limit (drop at s))
   unfolding readTree
   tree-large zero h k p e = absurd (omega arith)
-  tree-large (suc f) h k p e = rw (drop-one s at k, ne-eqb (getD s at 0) 0 (λ z. omega arith), lt-ltb limit (getD s at 0) e)
+  tree-large (suc f) h k p e = rw (drop-one 0 s at k, ne-eqb (getD s at 0) 0 (λ z. omega arith), lt-ltb limit (getD s at 0) e)
 
   -- as many points as the number says: the root and its branches
   pub tree-branches : (f : ℕ) (r : Read) → limit + limit < f → at < length s → 0 < getD s at 0 → getD s at 0 ≤ limit
@@ -47,7 +44,7 @@ module _ (s : List ℕ) (at limit : ℕ) where
   tree-branches zero r h k p e w = absurd (omega arith)
   tree-branches (suc f) r h k p e w =
       w f (omega arith)
-      ∙ rw (drop-one s at k, ne-eqb (getD s at 0) 0 (λ z. omega arith), le-ltb limit (getD s at 0) e)
+      ∙ rw (drop-one 0 s at k, ne-eqb (getD s at 0) 0 (λ z. omega arith), le-ltb limit (getD s at 0) e)
       (grafted (readBranches f (getD s at 0 - 1) (drop (at + 1) s)))
     where
       grafted : (o : Result (List Tree)) → walkedAll (at + 1) o ≡ walked at (mapped graft o)
