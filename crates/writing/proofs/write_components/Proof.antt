@@ -18,9 +18,6 @@ abbrev μ-loop : tie.MeasureT-loop
 loop-holds : tie.Need-loop-holds Inv-loop μ-loop
 loop-holds c = system-start (c .before .before .before .pre)
 
-shared-slice-read-to : tie.Need-shared-slice-read-to Inv-loop μ-loop
-shared-slice-read-to c = search needs
-
 cast-to : tie.Need-cast-to Inv-loop μ-loop
 cast-to c = omega (arith, c .shared-slice-known3 .given (c .before .before .loop .i))
 
@@ -28,12 +25,6 @@ add-to : tie.Need-add-to Inv-loop μ-loop
 add-to c =
     let l = c .before .before in
     omega (arith, system-to (l .before .before .before .before .pre) (l .loop .inv) (omega arith))
-
-sub-write-component : tie.Need-sub-write-component Inv-loop μ-loop
-sub-write-component c = search needs
-
-part-write-component-start : tie.Need-part-write-component-start Inv-loop μ-loop
-part-write-component-start c = search needs
 
 part-write-component-end : tie.Need-part-write-component-end Inv-loop μ-loop
 part-write-component-end c =
@@ -44,12 +35,6 @@ write-component-requires : tie.Need-write-component-requires Inv-loop μ-loop
 write-component-requires c κs =
     let l = c .before .before .before .before in
     system-room (l .before .before .before .before .pre) (l .loop .inv) (omega arith)
-
-add-i : tie.Need-add-i Inv-loop μ-loop
-add-i c = search needs
-
-loop-less : tie.Need-loop-less Inv-loop μ-loop
-loop-less c = search needs
 
 loop-again : tie.Need-loop-again Inv-loop μ-loop
 loop-again c =
@@ -73,15 +58,15 @@ write-components-spec =
     Inv-loop
     μ-loop
     loop-holds
-    shared-slice-read-to
+    (λ c. search needs)
     cast-to
     add-to
-    sub-write-component
-    part-write-component-start
+    (λ c. search needs)
+    (λ c. search needs)
     part-write-component-end
     write-component-requires
-    add-i
-    loop-less
+    (λ c. search needs)
+    (λ c. search needs)
     loop-again
     same-length
     returns)
