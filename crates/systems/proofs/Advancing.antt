@@ -1,11 +1,11 @@
 -- The first component of a system in memory gives way to its successor, and the components to the right of it are filled in.
 use mathlib.Core.Path.{_≡_, refl, ap, ap₂, sym, _∙_}
 use mathlib.Core.Bool.{Bool, true, false, not, true≢false}
-use mathlib.Core.List.{List, [], _∷_, _++_, map, head-eq-of-cons-eq}
+use mathlib.Core.List.{List, _∷_, _++_, map, head-eq-of-cons-eq}
 use mathlib.Core.Option.{Option, none, some}
 use Prim.Native.Nat.{ℕ, _≤_, _<_}
 use native.Mathlib.Omega.{arith}
-use lib.ListN.{length, take, drop, getD, length-append}
+use lib.ListN.{length, take, getD, length-append}
 use lib.Seq.{take-at, length-take-le}
 use Rattle.lists.specs.Select.{gather}
 use Rattle.lists.proofs.Permute.{total-map}

@@ -1,14 +1,14 @@
 -- The next size list, written in place of the last two sizes.
-use mathlib.Core.Path.{_≡_, refl, ap, ap₂, sym, _∙_}
+use mathlib.Core.Path.{_≡_, refl, ap, sym, _∙_}
 use mathlib.Core.Bool.{true}
 use mathlib.Core.List.{List, [], _∷_, _++_, append-assoc}
 use mathlib.Core.Option.{some, none}
-use Prim.Native.Nat.{ℕ, zero, suc, _+_, _-_, _≤_, _<_}
+use Prim.Native.Nat.{ℕ, suc, _+_, _-_, _≤_, _<_}
 use native.Mathlib.Numerals.{add-one}
 use native.Mathlib.Omega.{arith}
 use lib.Dec.{ltb}
-use lib.ListN.{length, take, drop, getD, set, length-append, length-take, length-set}
-use lib.Seq.{take-suc, take-suc-set, append-snoc, length-take-le, take-all}
+use lib.ListN.{length, take, getD, set, length-set}
+use lib.Seq.{take-suc, take-suc-set, append-snoc, length-take-le}
 use borrow.Author.Tests.{ltb-true}
 use Rattle.lists.specs.Select.{each}
 use Rattle.lists.proofs.Tests.{and-true, each-head, each-tail, each-append}

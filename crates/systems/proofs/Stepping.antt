@@ -1,18 +1,18 @@
 -- The step in memory: the next system with the same sizes, or where there is none the cycles of the next size list.
 use mathlib.Core.Path.{_≡_, refl, ap, sym, _∙_}
 use mathlib.Core.Bool.{Bool, true, false, true≢false}
-use mathlib.Core.List.{List, [], _∷_, map}
+use mathlib.Core.List.{List, map}
 use mathlib.Core.Option.{Option, none, some}
-use Prim.Native.Nat.{ℕ, zero, suc, _≤_, _<_}
+use Prim.Native.Nat.{ℕ, _≤_}
 use native.Mathlib.Omega.{arith}
 use lib.Dec.{ltb}
 use lib.ListN.{length, take, replicate, length-map}
 use lib.Seq.{length-take-le}
 use borrow.Author.Tests.{lt-ltb}
-use Rattle.lists.specs.Select.{each, gather}
+use Rattle.lists.specs.Select.{each}
 use Rattle.lists.proofs.Tests.{each-cons}
 use Rattle.lists.proofs.Permute.{total-map}
-use Rattle.patterns.specs.Component.{points, flat}
+use Rattle.patterns.specs.Component.{points}
 use Rattle.patterns.specs.System.{System, weight, canonical}
 use Rattle.systems.specs.declared.Stepped.the-variants.{Next, Last}
 use Rattle.system_theory.specs.Step.{nextSizes, cycle, bump, step}

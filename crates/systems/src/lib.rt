@@ -7,7 +7,7 @@ ghost use denote.Ref.{now};
 ghost use mathlib.Core.Path.{_≡_};
 ghost use mathlib.Core.List.{_∷_};
 ghost use mathlib.Core.Option.{some};
-ghost use lib.ListN.{length, take, replicate};
+ghost use lib.ListN.{length, take};
 ghost use Rattle.lists.specs.Select.{first, gather};
 ghost use Rattle.patterns.specs.System.{System, codes};
 ghost use Rattle.patterns.specs.Component.{Component};

@@ -1,5 +1,5 @@
 -- Writing numbers, components and whole systems into a lent output, one after another, with exactly the room that they need.
-use mathlib.Core.Path.{_≡_, refl, ap, sym, _∙_}
+use mathlib.Core.Path.{_≡_, refl, ap, _∙_}
 use mathlib.Core.List.{List, [], _∷_, _++_, append-nil}
 use Prim.Native.Nat.{ℕ, _+_, _-_, _≤_, _<_}
 use native.Mathlib.Numerals.{add-one}
@@ -10,20 +10,20 @@ use borrow.Author.Tests.{le-leb}
 use Rattle.lists.specs.Select.{gather}
 use Rattle.patterns.specs.Component.{Component, flat}
 use Rattle.patterns.specs.System.{System, weight}
-use Rattle.patterns.specs.Written.{componentNumbers, numbers, writeNumber, bytes, written}
+use Rattle.patterns.specs.Written.{componentNumbers, writeNumber, bytes, written}
 use Rattle.patterns.specs.Replies.{length-is, refused}
 use Rattle.patterns.specs.Entry.{gives, Replied}
 use Rattle.patterns.proofs.Trees.{length-flat}
 use Rattle.memory.specs.Memory.{Held, Holds, HeldSystem}
 use Rattle.memory.proofs.Parts.{take-next, part-fits, held-count, held-points, held-fits, held-part, held-next, held-unique}
-use Rattle.written.specs.Putting.{placed, Placed}
+use Rattle.written.specs.Putting.{Placed}
 use Rattle.written.proofs.Placing.{placed-length, placed-start, placed-then, put-refused}
 use Rattle.form_theory.proofs.Bounds.{gather-within}
-use Rattle.form_theory.proofs.Numbers.{write-length, bytes-append}
+use Rattle.form_theory.proofs.Numbers.{bytes-append}
 use Rattle.form_theory.proofs.Readback.{trees-points, components-points}
 use Rattle.form_theory.proofs.Stretches.{componentBytes, bytes-gather}
 use Rattle.form_theory.proofs.Widths.{widths-next, widths-within}
-use Rattle.writing.specs.Writable.{HeldComponent, ComponentRoom, ComponentsRoom, SystemRoom}
+use Rattle.writing.specs.Writable.{ComponentRoom, ComponentsRoom, SystemRoom}
 
 -- the output keeps its length
 pub placed-same : {l : List ℕ} {at r : ℕ} {before after : List ℕ} → at + length l ≤ length before → Placed l at before r after → length after ≡ length before

@@ -3,7 +3,7 @@ use denote.Ref.{now}
 use Prim.Native.Nat.{_-_}
 use native.Mathlib.Omega.{arith}
 use borrow.Author.Needs.{needs}
-use lib.ListN.{length, getD}
+use lib.ListN.{length}
 use Rattle.systems.proofs.Filling.{Filling, filling-start, filling-fits, filling-next, filling-end}
 use Rattle.systems.proofs.fill_right.Statement.{statement}
 use Rattle.systems.proofs.fill_right.Tie as tie

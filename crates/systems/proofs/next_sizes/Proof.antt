@@ -1,8 +1,7 @@
 use denote.Ref.{now}
-use Prim.Native.Nat.{_+_, _-_, _≤_}
+use Prim.Native.Nat.{_+_, _-_}
 use native.Mathlib.Omega.{arith}
 use borrow.Author.Needs.{needs}
-use lib.ListN.{length, length-set}
 use Rattle.systems.proofs.Growing.{Growing, next-short, growing-start, growing-next, growing-end}
 use Rattle.systems.proofs.next_sizes.Statement.{statement}
 use Rattle.systems.proofs.next_sizes.Tie as tie
