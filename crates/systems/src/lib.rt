@@ -101,13 +101,7 @@ fn advance(sizes: &[u8], trees: &mut [u8], up: &mut [u8], side: &mut [u8], out: 
 }
 
 // The next system with the same sizes, where there is one: from the right, the first component that has a successor.
-pub fn bump(
-    sizes: &[u8],
-    trees: &mut [u8],
-    up: &mut [u8],
-    side: &mut [u8],
-    out: &mut [u8],
-) -> bool
+pub fn bump(sizes: &[u8], trees: &mut [u8], up: &mut [u8], side: &mut [u8], out: &mut [u8]) -> bool
     requires { ⌜ HeldCanonical (now sizes) (now trees) (now up) (now side) (now out) ⌝ }
     ensures { λ r. ⌜ ((S : System) → Holds S (now (sizes .entry)) (now (trees .entry))
         → Bumped (bumpOf S) r (now (sizes .entry)) (now (trees .exit))) ⌝ }
