@@ -15,7 +15,7 @@ use Rattle.patterns.specs.declared.reply.Stretch.{Stretch}
 use Rattle.patterns.specs.declared.reply.Stretch.the-variants.{Part}
 use Rattle.patterns.specs.Replies.{PartAnswer, part-is, part-refused, partAnswer}
 use Rattle.patterns.specs.Entry.{partAnswered}
-use Rattle.component_reader.proofs.Showing.{stands, stands-within}
+use Rattle.form_theory.proofs.ComponentStands.{stands, stands-within}
 use Rattle.patterns.specs.SignedReplies.{signedOf}
 use Rattle.c_interface.proofs.Fitting.{Fits, read-back, refused-fits}
 

@@ -1,3 +1,2 @@
--- Laws that the proofs of this crate share, and what the reader shows.
+-- Laws that the proofs of this crate share.
 pub mod Showing
-pub mod Theorems

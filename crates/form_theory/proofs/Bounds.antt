@@ -33,10 +33,6 @@ pub below-at : (k : ℕ) (l : List ℕ) → ((i : ℕ) → i < length l → getD
 below-at k [] h = refl
 below-at k (x ∷ l) h = below-cons k x l (h 0 (omega arith)) (below-at k l (λ i g. h (suc i) (omega arith)))
 
-pub below-grow : (j k : ℕ) (l : List ℕ) → j ≤ k → allBelow j l ≡ true → allBelow k l ≡ true
-below-grow j k [] h e = refl
-below-grow j k (x ∷ l) h e = let g = below-head j x l e in below-cons k x l (omega arith) (below-grow j k l h (below-tail j x l e))
-
 pub length-gather : {A B : Type 0} (f : A → List B) (l : List A) → length (gather f l) ≡ total (λ x. length (f x)) l
 length-gather f [] = refl
 length-gather f (x ∷ l) = rw (length-append, length-gather f l)

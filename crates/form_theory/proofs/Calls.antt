@@ -10,7 +10,7 @@ use lib.ListN.{length, take, drop, length-map}
 use lib.Seq.{take-at}
 use borrow.Author.Tests.{le-ltb, leb-true, leb-false}
 use Rattle.lists.specs.Select.{first, next}
-use Rattle.lists.proofs.Tests.{_∈_, by-test, either, choose-both}
+use Rattle.lists.proofs.Tests.{_∈_, by-test, either, choose-both, clash}
 use Rattle.lists.proofs.Members.{NoDup, lawful-decides, in-head, in-tail, in-list, in-moved, in-middle, in-append-left, in-cons-cases, not-in-nil, nodup-left, nodup-map, nodup-middle, nodup-apart, in-map, of-map}
 use Rattle.lists.proofs.Places.{in-split, next-split}
 use Rattle.lists.proofs.Pigeon.{inside-length}
@@ -94,7 +94,7 @@ left-next {n} {s} {S} {r} h l =
 module _ {before after : List ℕ} where
   replied-length : (r : List System) (k : ℕ) → Replied (listed (first r)) before (length-is k) after
       → (S : System) × (r′ : List System) × (r ≡ S ∷ r′) × (leb (length (written S)) (length before) ≡ true) × (take k after ≡ written S)
-  replied-length [] k p = let z : _≡_ {A = ℕ} 0 1 = cc (p .reply) in absurd (omega arith)
+  replied-length [] k p = clash (cc (p .reply))
   replied-length (S ∷ r) k p =
       by-test (leb (length (written S)) (length before))
       (λ t.
@@ -102,21 +102,21 @@ module _ {before after : List ℕ} where
       let f : after ≡ written S ++ drop (length (written S)) before = rw t at (p .output) in
       let g : k ≡ length (written S) = cc in
       (S, r, refl, t, rw f (take-at (written S) (drop (length (written S)) before) k (sym g))))
-      (λ t. let e : length-is k ≡ refused 8 = rw t at (p .reply) in let z : _≡_ {A = ℕ} 0 1 = cc in absurd (omega arith))
+      (λ t. let e : length-is k ≡ refused 8 = rw t at (p .reply) in clash cc)
 
   replied-last : (r : List System) → Replied (listed (first r)) before last after → r ≡ []
   replied-last [] p = refl
   replied-last (S ∷ r) p =
       by-test (leb (length (written S)) (length before))
-      (λ t. let e : last ≡ length-is (length (written S)) = rw t at (p .reply) in let z : _≡_ {A = ℕ} 0 1 = cc in absurd (omega arith))
-      (λ t. let e : last ≡ refused 8 = rw t at (p .reply) in let z : _≡_ {A = ℕ} 0 1 = cc in absurd (omega arith))
+      (λ t. let e : last ≡ length-is (length (written S)) = rw t at (p .reply) in clash cc)
+      (λ t. let e : last ≡ refused 8 = rw t at (p .reply) in clash cc)
 
   replied-refused : (r : List System) (c : ℕ) → Replied (listed (first r)) before (refused c) after
       → (S : System) × (r′ : List System) × (r ≡ S ∷ r′) × (leb (length (written S)) (length before) ≡ false) × (c ≡ 8)
-  replied-refused [] c p = let z : _≡_ {A = ℕ} 0 1 = cc (p .reply) in absurd (omega arith)
+  replied-refused [] c p = clash (cc (p .reply))
   replied-refused (S ∷ r) c p =
       by-test (leb (length (written S)) (length before))
-      (λ t. let e : refused c ≡ length-is (length (written S)) = rw t at (p .reply) in let z : _≡_ {A = ℕ} 0 1 = cc in absurd (omega arith))
+      (λ t. let e : refused c ≡ length-is (length (written S)) = rw t at (p .reply) in clash cc)
       (λ t. let e : refused c ≡ refused 8 = rw t at (p .reply) in (S, r, refl, t, cc))
 
 run-writes : (S : System) (r : List System) (b : List ℕ) (bs : List (List ℕ)) → leb (length (written S)) (length b) ≡ true
@@ -182,11 +182,11 @@ run-refusals : (k : ℕ) (r : List System) (buffers : List (List ℕ)) → ((S :
     → (c : ℕ) (b : List ℕ) → refusal c b ∈ runOf r buffers → (c ≡ 8) × (length b < k)
 unfolding runOf
 run-refusals k r [] f c b m = not-in-nil m
-run-refusals k [] (a ∷ bs) f c b m = either (in-cons-cases m) (λ e. let z : _≡_ {A = ℕ} 0 1 = cc in absurd (omega arith)) (λ i. not-in-nil i)
+run-refusals k [] (a ∷ bs) f c b m = either (in-cons-cases m) (λ e. clash cc) (λ i. not-in-nil i)
 run-refusals k (S ∷ r) (a ∷ bs) f c b m =
     by-test (leb (length (written S)) (length a))
     (λ t. either (in-cons-cases (rw (run-writes S r a bs t) at m))
-    (λ e. let z : _≡_ {A = ℕ} 0 1 = cc in absurd (omega arith))
+    (λ e. clash cc)
     (λ i. run-refusals k r bs (λ R j. f R (in-tail j)) c b i))
     (λ t. either (in-cons-cases (rw (run-refuses S r a bs t) at m))
     (λ e.

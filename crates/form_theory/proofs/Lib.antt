@@ -7,4 +7,5 @@ pub mod ReadFrom
 pub mod Readback
 pub mod WrittenBack
 pub mod Stretches
+pub mod ComponentStands
 pub mod Calls

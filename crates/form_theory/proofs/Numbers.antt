@@ -1,7 +1,7 @@
 -- Writing numbers as bytes and cutting bytes into numbers undo each other.
-use mathlib.Core.Path.{_≡_, refl, ap, ap₂, sym, _∙_}
+use mathlib.Core.Path.{_≡_, refl, ap, _∙_}
 use mathlib.Core.Bool.{true, _||_}
-use mathlib.Core.List.{List, [], _∷_, _++_, head-eq-of-cons-eq, tail-eq-of-cons-eq}
+use mathlib.Core.List.{List, [], _∷_, _++_}
 use Prim.Native.Nat.{ℕ, _+_, _-_, _*_, _/_, _%_, _≤_, _<_}
 use native.Mathlib.Omega.{arith}
 use native.Mathlib.Nat.{mod-lt, div-add-mod'}
@@ -11,7 +11,7 @@ use borrow.Author.Tests.{lt-ltb, le-ltb, ltb-true, ltb-false, lt-leb, leb-false,
 use Rattle.lists.proofs.Tests.{by-test, choose-case}
 use Rattle.patterns.specs.Written.{writeNumber, bytes}
 use Rattle.patterns.specs.Reading.{done, mapped, cut}
-use Rattle.form_theory.proofs.Results.{Good, good-mapped, good-done, or-false}
+use Rattle.form_theory.proofs.Results.{Good, good-mapped, or-false}
 use Rattle.form_theory.proofs.Bounds.{allBelow, below-cons, below-head, below-tail, below-append}
 use Rattle.lists.proofs.Members.{gather-append}
 
@@ -83,36 +83,6 @@ cut-good (x ∷ y ∷ l) h =
     let i : 0 < y = omega (arith, eqb-false y 0 (g .0)) in
     good-mapped (Cut l) (Cut (x ∷ y ∷ l)) (cut l) ((x - 128 + y * 128) ∷_) (cut-good l (below-tail 256 y l (below-tail 256 x (y ∷ l) h)))
     (λ xs c. long-back x y l xs (ltb-false x 128 e) (below-head 256 x (y ∷ l) h) i (leb-false 128 y (g .1)) c)))
-
--- bytes that can be cut are the bytes of the numbers cut, each of at most two bytes
-pub cut-back : (b xs : List ℕ) → allBelow 256 b ≡ true → cut b ≡ done xs → (b ≡ bytes xs) × (allBelow 16384 xs ≡ true)
-cut-back b xs h e = good-done (Cut b) (cut b) xs e (cut-good b h)
-
--- the number written at the front, and what follows it, are known by the bytes
-pub write-prefix : (x y : ℕ) (r s : List ℕ) → writeNumber x ++ r ≡ writeNumber y ++ s → (x ≡ y) × (r ≡ s)
-write-prefix x y r s e =
-    let dx = div-add-mod' x 128 in
-    let dy = div-add-mod' y 128 in
-    by-test (ltb x 128)
-    (λ f. by-test (ltb y 128)
-    (λ g. let e′ : (x ∷ r) ≡ (y ∷ s) = rw (f, g) at e in (head-eq-of-cons-eq e′, tail-eq-of-cons-eq e′))
-    (λ g. let e′ : (x ∷ r) ≡ ((y % 128 + 128) ∷ y / 128 ∷ s) = rw (f, g) at e in absurd (omega (arith, head-eq-of-cons-eq e′, ltb-true x 128 f))))
-    (λ f. by-test (ltb y 128)
-    (λ g. let e′ : ((x % 128 + 128) ∷ x / 128 ∷ r) ≡ (y ∷ s) = rw (f, g) at e in absurd (omega (arith, head-eq-of-cons-eq e′, ltb-true y 128 g)))
-    (λ g.
-    let e′ : ((x % 128 + 128) ∷ x / 128 ∷ r) ≡ ((y % 128 + 128) ∷ y / 128 ∷ s) = rw (f, g) at e in
-    let t = tail-eq-of-cons-eq e′ in
-    (omega (arith, head-eq-of-cons-eq e′, head-eq-of-cons-eq t), tail-eq-of-cons-eq t)))
-
-write-nonempty : (x : ℕ) (r : List ℕ) → [] ≡ writeNumber x ++ r → ⊥
-write-nonempty x r e = omega (arith, ap length e, length-append (writeNumber x) r, write-length x .0)
-
--- different lists of numbers have different bytes
-pub bytes-injective : (xs ys : List ℕ) → bytes xs ≡ bytes ys → xs ≡ ys
-bytes-injective [] [] e = refl
-bytes-injective [] (y ∷ ys) e = absurd (write-nonempty y (bytes ys) e)
-bytes-injective (x ∷ xs) [] e = absurd (write-nonempty x (bytes xs) (sym e))
-bytes-injective (x ∷ xs) (y ∷ ys) e = let p = write-prefix x y (bytes xs) (bytes ys) e in ap₂ _∷_ (p .0) (bytes-injective xs ys (p .1))
 
 pub bytes-append : (xs ys : List ℕ) → bytes (xs ++ ys) ≡ bytes xs ++ bytes ys
 bytes-append xs ys = gather-append writeNumber xs ys

@@ -86,13 +86,6 @@ components-good (suc m) left (k ∷ s) =
 pub tree-read : (f limit : ℕ) (s : List ℕ) (t : Tree) → readTree f limit s ≡ done t → (s ≡ code t ++ drop (size t) s) × (size t ≤ limit)
 tree-read f limit s t e = good-done (TreeOf limit s) (readTree f limit s) t e (tree-good f limit s)
 
-pub branches-read : (f left : ℕ) (s : List ℕ) (bs : List Tree) → readBranches f left s ≡ done bs
-    → (s ≡ gather code bs ++ drop (total size bs) s) × (total size bs ≡ left)
-branches-read f left s bs e = good-done (BranchesOf left s) (readBranches f left s) bs e (branches-good f left s)
-
-pub trees-read : (k left : ℕ) (s : List ℕ) (c : Component) → readTrees k left s ≡ done c → (s ≡ flat c ++ drop (points c) s) × (length c ≡ k) × (points c ≤ left)
-trees-read k left s c e = good-done (TreesOf k left s) (readTrees k left s) c e (trees-good k left s)
-
 pub components-read : (m left : ℕ) (s : List ℕ) (S : System) → readComponents m left s ≡ done S
     → (s ≡ gather componentNumbers S ++ drop (length S + weight S) s) × (length S ≡ m) × (weight S ≡ left)
 components-read m left s S e = good-done (ComponentsOf m left s) (readComponents m left s) S e (components-good m left s)

@@ -6,19 +6,19 @@ use Prim.Native.Nat.{ℕ, zero, suc, _+_, _-_, _≤_, _<_}
 use native.Mathlib.Omega.{arith}
 use lib.Dec.{ltb, eqb}
 use lib.ListN.{length, drop, length-append, drop-of-length-le}
-use lib.Seq.{drop-at, drop-drop}
-use borrow.Author.Tests.{le-ltb, ltb-false, eq-eqb, ne-eqb, eqb-true, eqb-false}
+use lib.Seq.{drop-at}
+use borrow.Author.Tests.{le-ltb, ltb-false, eq-eqb, ne-eqb}
 use Rattle.lists.specs.Select.{each, gather, total}
 use Rattle.lists.specs.Order.{atMost}
 use Rattle.lists.proofs.Tests.{choose-case, each-cons, each-head, each-tail, and-true}
-use Rattle.patterns.specs.Tree.{Tree, size, below, code, branches, graft, validTree}
+use Rattle.patterns.specs.Tree.{Tree, size, below, code, branches, validTree}
 use Rattle.patterns.specs.Component.{Component, points, flat, nonempty, rotations, compareComponent, validComponent}
 use Rattle.patterns.specs.System.{System, weight, compareGenerated, inOrder, canonical}
 use Rattle.patterns.specs.Written.{componentNumbers, numbers}
 use Rattle.patterns.specs.Reading.{done, readTree, readBranches, readTrees, readComponents, finished, readBody, readSystem}
-use Rattle.form_theory.proofs.Results.{Good, good-weaken, good-then, good-done}
+use Rattle.form_theory.proofs.Results.{Good, good-weaken, good-then}
 use Rattle.form_theory.proofs.ReadFrom.{ComponentsOf, components-good}
-use Rattle.patterns.proofs.Trees.{size-positive, length-code, length-flat, below-branches, code-branches, size-branches, graft-branches, branches-graft, size-graft}
+use Rattle.patterns.proofs.Trees.{size-positive, length-code, length-flat, below-branches, size-branches, graft-branches}
 
 total-branches : (t : Tree) → total size (branches t) ≡ size t - 1
 total-branches t = omega (arith, size-branches t)
@@ -158,7 +158,3 @@ system-good (n ∷ s) =
     choose-case (Good (Accepted (n ∷ s))) (ltb 200 n) (λ e. tt) (λ e.
     let h = ltb-false 200 n e in
     good-weaken (SystemOf n s) (Accepted (n ∷ s)) (readBody n s) (body-good n s) (λ S q. (ap₂ _∷_ (sym (q .1)) (q .0), q .2, omega arith)))
-
--- What is read has exactly the numbers that it was read from.
-pub system-read : (s : List ℕ) (S : System) → readSystem s ≡ done S → (s ≡ numbers S) × (canonical S ≡ true) × (weight S ≤ 200)
-system-read s S e = good-done (Accepted s) (readSystem s) S e (system-good s)

@@ -1,12 +1,12 @@
 -- The components of a system in memory, by their places.
 use mathlib.Core.Path.{_≡_, refl, ap, ap₂, sym, _∙_}
 use mathlib.Core.List.{List, [], _∷_, _++_, map, append-nil, head-eq-of-cons-eq, tail-eq-of-cons-eq}
-use Prim.Native.Nat.{ℕ, zero, suc, _+_, _-_, _≤_, _<_}
+use Prim.Native.Nat.{ℕ, suc, _+_, _-_, _≤_, _<_}
 use native.Mathlib.Numerals.{add-one}
 use native.Mathlib.Omega.{arith}
 use lib.ListN.{length, take, drop, getD, length-append, length-map, take-append-drop, List·getD-map}
-use lib.Seq.{take-suc, drop-cons, take-at, drop-at, take-append-add}
-use Rattle.lists.specs.Select.{gather, total}
+use lib.Seq.{take-suc, drop-cons, take-at, drop-at}
+use Rattle.lists.specs.Select.{gather}
 use Rattle.lists.proofs.Permute.{total-append}
 use Rattle.lists.proofs.Members.{gather-append}
 use Rattle.patterns.specs.Component.{Component, points, flat}

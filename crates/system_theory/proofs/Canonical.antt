@@ -8,7 +8,7 @@ use lib.Dec.{isLe, leb, eqb}
 use borrow.Author.Tests.{le-leb, leb-true, leb-false, eqb-true, eqb-false}
 use Rattle.lists.specs.Order.{then, atMost, lex}
 use Rattle.lists.specs.Select.{each, place}
-use Rattle.lists.proofs.Tests.{_∈_, by-test, either, no-both, and-true, each-true, each-member, each-head, each-tail}
+use Rattle.lists.proofs.Tests.{_∈_, by-test, either, no-both, and-true, each-true}
 use Rattle.lists.proofs.Comparison.{then-eq, atMost-trans, compare-lt, compare-gt, compare-self}
 use Rattle.lists.proofs.Lex.{lex-compare-lawful}
 use Rattle.lists.proofs.Sorting.{Sorted, sorted-nil, sorted-cons}
@@ -75,25 +75,9 @@ pub inOrder-from : (p c : Component) (S : System) → validComponent c ≡ true 
 unfolding inOrder
 inOrder-from p c S v h e = rw (v, h, e)
 
--- every valid component may stand first
-pub empty-before : (c : Component) → validComponent c ≡ true → atMost compareGenerated [] c ≡ true
-empty-before c v = ap isLe (generated-fewer [] c (points-positive c v))
-
 pub canonical-cons : (c : Component) (S : System) → canonical (c ∷ S) ≡ true → (validComponent c ≡ true) × (inOrder c S ≡ true)
 unfolding canonical
 canonical-cons c S e = let r = inOrder-parts [] c S e in (r .0, r .2)
-
-pub cons-canonical : (c : Component) (S : System) → validComponent c ≡ true → inOrder c S ≡ true → canonical (c ∷ S) ≡ true
-unfolding canonical
-cons-canonical c S v e = inOrder-from [] c S v (empty-before c v) e
-
--- the left neighbour may be any that comes no later
-pub inOrder-earlier : (p q : Component) (S : System) → atMost compareGenerated p q ≡ true → inOrder q S ≡ true → inOrder p S ≡ true
-unfolding inOrder
-inOrder-earlier p q [] h e = refl
-inOrder-earlier p q (c ∷ S) h e =
-    let r = inOrder-parts q c S e in
-    inOrder-from p c S (r .0) (generated-trans p q c h (r .1)) (r .2)
 
 -- what stands to the right of p in order comes no earlier
 inOrder-member : (p : Component) {S : System} {c : Component} → inOrder p S ≡ true → c ∈ S → (validComponent c ≡ true) × (atMost compareGenerated p c ≡ true)
@@ -110,22 +94,10 @@ inOrder-sorted p (c ∷ S) e =
     let r = inOrder-parts p c S e in
     sorted-cons (each-true (atMost compareGenerated c) S (λ d m. (inOrder-member c (r .2) m) .1)) (inOrder-sorted c S (r .2))
 
-sorted-inOrder : (p : Component) (S : System) → each validComponent S ≡ true → each (atMost compareGenerated p) S ≡ true → Sorted compareGenerated S → inOrder p S ≡ true
-unfolding inOrder
-sorted-inOrder p [] v h s = refl
-sorted-inOrder p (c ∷ S) v h (sorted-cons k s) =
-    inOrder-from p c S (each-head validComponent c S v) (each-head (atMost compareGenerated p) c S h)
-    (sorted-inOrder c S (each-tail validComponent c S v) k s)
-
 -- canonical: every component is valid, and none comes before one that stands to its left
 pub canonical-parts : (S : System) → canonical S ≡ true → (each validComponent S ≡ true) × (Sorted compareGenerated S)
 unfolding canonical
 canonical-parts S e = (each-true validComponent S (λ c m. (inOrder-member [] e m) .0), inOrder-sorted [] S e)
-
-pub canonical-from : (S : System) → each validComponent S ≡ true → Sorted compareGenerated S → canonical S ≡ true
-unfolding canonical
-canonical-from S v s =
-    sorted-inOrder [] S v (each-true (atMost compareGenerated []) S (λ c m. empty-before c (each-member validComponent v m))) s
 
 -- the sizes of a system in order do not decrease
 pub inOrder-upward : (p : Component) (S : System) → inOrder p S ≡ true → Upward (points p) (map points S)

@@ -38,10 +38,6 @@ keys-lawful = lex-lawful lex-compare-lawful
 pub codes-apart : (S R : System) → compareCodes S R ≡ Ordering·lt → compareCodes R S ≡ Ordering·lt → ⊥
 codes-apart S R e f = lt-asymmetric keys-lawful (codeKey S) (codeKey R) (sym (compareCodes-key S R) ∙ e) (sym (compareCodes-key R S) ∙ f)
 
-pub codes-chain : (S R T : System) → compareCodes S R ≡ Ordering·lt → compareCodes R T ≡ Ordering·lt → compareCodes S T ≡ Ordering·lt
-codes-chain S R T e f =
-    compareCodes-key S T ∙ keys-lawful .chain (codeKey S) (codeKey R) (codeKey T) (sym (compareCodes-key S R) ∙ e) (sym (compareCodes-key R T) ∙ f)
-
 -- smaller size lists come first
 pub codes-sizes : (S R : System) → lex compare (map points S) (map points R) ≡ Ordering·lt → compareCodes S R ≡ Ordering·lt
 unfolding compareCodes

@@ -9,14 +9,14 @@ use native.Mathlib.Omega.{arith}
 use lib.Dec.{leb, eqb}
 use borrow.Author.Tests.{le-leb, lt-leb, leb-true, leb-false, eq-eqb, ne-eqb, eqb-true}
 use Rattle.lists.specs.Order.{lex}
-use Rattle.lists.specs.Select.{keep, gather, total, range, first, next}
+use Rattle.lists.specs.Select.{keep, gather, total, range, first}
 use Rattle.lists.proofs.Tests.{_∈_, by-test, either, or-true}
 use Rattle.lists.proofs.Comparison.{compare-self}
-use Rattle.lists.proofs.Lex.{lex-cons-lt, lex-cons-eq, lex-compare-lawful}
-use Rattle.lists.proofs.Members.{NoDup, lawful-decides, in-head, in-single, not-in-nil, in-cons-cases, in-list, in-keep, of-keep, in-range, of-range, in-map, of-map, in-gather, of-gather, keep-append}
+use Rattle.lists.proofs.Lex.{lex-cons-lt, lex-cons-eq}
+use Rattle.lists.proofs.Members.{in-head, in-single, not-in-nil, in-list, in-keep, of-keep, in-range, of-range, in-map, of-map, in-gather, of-gather, keep-append}
 use Rattle.lists.proofs.Places.{range-append}
-use Rattle.lists.proofs.Rising.{Rising, rising-nil, rising-single, rising-keep, rising-range, rising-map, rising-gather-rising, lawful-nodup}
-use Rattle.lists.proofs.Follow.{Within, first-map, first-gather, within-head, within-map, within-gather, within-next}
+use Rattle.lists.proofs.Rising.{Rising, rising-nil, rising-single, rising-keep, rising-range, rising-map, rising-gather-rising}
+use Rattle.lists.proofs.Follow.{Within, first-map, first-gather, within-head, within-map, within-gather}
 use Rattle.patterns.specs.System.{firstSizes, sizeLists}
 use Rattle.system_theory.specs.Step.{leastSizes, nextSizes}
 
@@ -38,11 +38,6 @@ upward-tail (upward-cons h u) = u
 pub upward-from : {a b : ℕ} {l : List ℕ} → a ≤ b → Upward b l → Upward a l
 upward-from h upward-nil = upward-nil
 upward-from {a} h (upward-cons {b = c} k u) = let i : a ≤ c = omega arith in upward-cons i u
-
--- every member is at least the bound
-pub upward-member : {a x : ℕ} {l : List ℕ} → Upward a l → x ∈ l → a ≤ x
-upward-member upward-nil m = not-in-nil m
-upward-member (upward-cons h u) m = either (in-cons-cases m) (λ e. omega arith) (λ k. omega (arith, upward-member u k))
 
 or-right : (a b : Bool) → b ≡ true → (a || b) ≡ true
 or-right true b e = refl
@@ -274,14 +269,3 @@ sizes-within (suc k) a h (upward-cons {b = b} {l = l} p u) i =
     let z : b + sum l - b ≡ sum l = omega arith in
     rw (sizes-some k a (b + sum l) (omega arith))
     (within-longer k a b l h p i u (subst (λ n. Within l (sizeLists k b n) (nextSizes l)) (sym z) (sizes-within k b (omega arith) u (omega arith))))
-
--- no size list stands twice
-pub sizes-different : (k a n : ℕ) → NoDup (sizeLists k a n)
-sizes-different k a n = lawful-nodup lex-compare-lawful (sizes-rise k a n)
-
--- what follows l among all size lists of n is the next one by the closed step
-pub sizes-next-is : (n : ℕ) {l : List ℕ} → l ∈ sizeLists n 1 n → next (lex compare) l (sizeLists n 1 n) ≡ nextSizes l
-sizes-next-is n {l} m =
-    let r = sizes-sound n 1 n m in
-    within-next (lawful-decides lex-compare-lawful) (sizes-different n 1 n)
-    (rw (r .1) at (sizes-within n 1 (omega arith) (r .0) (omega (arith, r .1))))

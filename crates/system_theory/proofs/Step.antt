@@ -1,17 +1,17 @@
 -- What follows a code in the list of all codes is the step: and so the step gives the least greater code, and none where there is none.
-use mathlib.Core.Path.{_≡_, refl, sym}
+use mathlib.Core.Path.{_≡_}
 use mathlib.Core.Logic.{_⊎_}
-use mathlib.Core.List.{List, [], _∷_, _++_, map}
+use mathlib.Core.List.{[], _∷_, map}
 use mathlib.Core.Bool.{true}
 use mathlib.Core.Option.{Option, none, some}
 use Prim.Native.Nat.{ℕ, Ordering·lt}
 use native.Mathlib.Omega.{arith}
 use lib.Dec.{eqb}
 use Rattle.lists.specs.Order.{atMost}
-use Rattle.lists.specs.Select.{first, next}
+use Rattle.lists.specs.Select.{next}
 use Rattle.lists.proofs.Tests.{by-test}
 use Rattle.lists.proofs.Permute.{total-map}
-use Rattle.lists.proofs.Members.{lawful-decides, in-list, in-middle, in-head}
+use Rattle.lists.proofs.Members.{lawful-decides, in-list, in-head}
 use Rattle.lists.proofs.Rising.{rising-head, rising-right}
 use Rattle.lists.proofs.Follow.{Within, in-within, within-head, within-from, within-next, within-unique, within-some, within-last, within-map, within-gather, within-some-in}
 use Rattle.patterns.specs.Component.{Component, points, compareComponent, validComponent}
@@ -66,12 +66,6 @@ step-within S e =
 -- the step gives what follows in the list of all codes
 pub step-is : (S : System) → canonical S ≡ true → next compareSystem S (codes (weight S)) ≡ step S
 step-is S e = within-next (lawful-decides compareSystem-lawful) (codes-different (weight S)) (step-within S e)
-
--- wherever S stands in the list, the step gives what follows
-pub step-cut : (n : ℕ) (a b : List System) (S : System) → codes n ≡ a ++ (S ∷ b) → step S ≡ first b
-step-cut n a b S e =
-    let s = codes-sound n S (in-list (sym e) (in-middle a b)) in
-    within-unique (codes-different n) (rw (s .1) at (step-within S (s .0))) (record { before = a; after = b; cut = e; follows = refl })
 
 -- With these a loop can take one step after another: the step keeps canonical and the number of points, and with the same sizes it keeps the sizes.
 pub bump-keeps : (S R : System) → canonical S ≡ true → bump S ≡ some R → (canonical R ≡ true) × (map points R ≡ map points S)

@@ -13,26 +13,22 @@ use Rattle.patterns.specs.Reading.{done}
 use Rattle.patterns.specs.Replies.{part-is, part-refused}
 use Rattle.patterns.specs.Entry.{partAnswered, componentIn}
 use Rattle.patterns.proofs.Trees.{length-flat}
-use Rattle.memory.specs.Memory.{Held, Holds, HeldSystem}
+use Rattle.memory.specs.Memory.{Holds, HeldSystem}
 use Rattle.memory.proofs.Parts.{part-fits, held-count, held-points, held-fits, held-part, held-next}
-use Rattle.form_theory.proofs.Numbers.{bytes-length, write-length}
+use Rattle.form_theory.proofs.Numbers.{bytes-length}
 use Rattle.form_theory.proofs.Stretches.{start-first, start-after, start-last, start-within, written-short}
 use Rattle.writing.specs.Writable.{HeldComponent}
 
 -- One component: the number of its trees, then their codes.
-module _ {s : List ℕ} (w : HeldComponent s) where
-  pub component-held : Held s
-  component-held = record { trees = w .trees; is = w .is }
+pub codes-bound : {s : List ℕ} → HeldComponent s → length (bytes s) ≤ 400
+codes-bound {s} w = omega (arith, bytes-length s, w .small)
 
-  module _ (k front rest : ℕ) (p : (c : Component) → s ≡ flat c → k ≡ length c) (q : front ≡ length (writeNumber k)) (r : rest ≡ length (bytes s)) where
-    pub component-long : (c : Component) → s ≡ flat c → front + rest ≡ length (bytes (componentNumbers c))
-    component-long c e =
-        let a : front ≡ length (writeNumber (length c)) = q ∙ ap (λ x. length (writeNumber x)) (p c e) in
-        let b : rest ≡ length (bytes (flat c)) = r ∙ ap (λ x. length (bytes x)) e in
-        omega (arith, length-append (writeNumber (length c)) (bytes (flat c)))
-
-    pub component-bound : front + rest ≤ 402
-    component-bound = omega (arith, write-length k .1, bytes-length s, w .small)
+pub component-long : {s : List ℕ} (k front rest : ℕ) → ((c : Component) → s ≡ flat c → k ≡ length c) → front ≡ length (writeNumber k) → rest ≡ length (bytes s)
+    → (c : Component) → s ≡ flat c → front + rest ≡ length (bytes (componentNumbers c))
+component-long k front rest p q r c e =
+    let a : front ≡ length (writeNumber (length c)) = q ∙ ap (λ x. length (writeNumber x)) (p c e) in
+    let b : rest ≡ length (bytes (flat c)) = r ∙ ap (λ x. length (bytes x)) e in
+    omega (arith, length-append (writeNumber (length c)) (bytes (flat c)))
 
 -- The first i components of S are passed: the next begins at `start` in the code, and at `from` in the trees.
 pub record Passed (S : System) (i from start : ℕ) : Type 0 where

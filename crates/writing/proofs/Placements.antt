@@ -10,7 +10,7 @@ use borrow.Author.Tests.{le-leb}
 use Rattle.lists.specs.Select.{gather}
 use Rattle.patterns.specs.Component.{Component, flat}
 use Rattle.patterns.specs.System.{System, weight}
-use Rattle.patterns.specs.Written.{componentNumbers, numbers, writeNumber, bytes, written}
+use Rattle.patterns.specs.Written.{componentNumbers, writeNumber, bytes, written}
 use Rattle.patterns.specs.Replies.{length-is, refused}
 use Rattle.patterns.specs.Entry.{gives, Replied}
 use Rattle.patterns.proofs.Trees.{length-flat}

@@ -48,7 +48,8 @@ fn component_width(s: &[u8]) -> usize
     requires { ⌜ HeldComponent (now s) ⌝ }
     ensures { λ r. ⌜ ((c : Component) → now (s .entry) ≡ flat c → r ≡ length (bytesOf (componentNumbers c))) ⌝ }
 {
-    width(count(s)) + total_width(s)
+    let k = count(s);
+    width(k) + total_width(s)
 }
 
 // Where the component at `position` begins in the written code of the system; behind the last component, where the code ends.
@@ -110,7 +111,8 @@ fn write_component(s: &[u8], out: &mut [u8], at: usize) -> usize
     ensures { λ r. ⌜ ((c : Component) → now (s .entry) ≡ flat c
         → Placed (bytesOf (componentNumbers c)) at (now (out .entry)) r (now (out .exit))) ⌝ }
 {
-    let next = put_number(count(s), out, at);
+    let k = count(s);
+    let next = put_number(k, out, at);
     write_numbers(s, out, next)
 }
 

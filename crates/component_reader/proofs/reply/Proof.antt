@@ -50,8 +50,8 @@ use Rattle.component_reader.specs.declared.ComponentReader.{ComponentRea
 use Rattle.patterns.specs.declared.reply.Stretch.{Stretch}
 use Rattle.component_reader.proofs.ComponentReader as T
 use Rattle.component_reader.proofs.ComponentReader.Laws as T′
-use Rattle.patterns.proofs.Stretch as S
-use Rattle.patterns.proofs.Stretch.Laws as S′
+use Rattle.patterns.proofs.reply.Stretch as S
+use Rattle.patterns.proofs.reply.Stretch.Laws as S′
 use Rattle.component_reader.proofs.stretch_of as found
 use Rattle.component_reader.proofs.stretch_of.Symbol as found-def
 use Rattle.component_reader.proofs.stretch_of.Symbol.{name as #stretch-of}

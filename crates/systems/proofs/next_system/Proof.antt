@@ -4,112 +4,70 @@ use borrow.Author.Needs.{needs}
 use Rattle.systems.proofs.next_system.Statement.{statement}
 use Rattle.systems.proofs.next_system.Tie as tie
 
-slice-reshare-prefix-bump : tie.Need-slice-reshare-prefix-bump
-slice-reshare-prefix-bump c = search needs
+-- The places at which something is learnt: the start, the search for a component with a successor, the next size list. Later places lead down to them.
+abbrev start : tie.After-slice-known5 → tie.Start
+start c = c .before .before .before .before .before
+
+abbrev begun : tie.After-bump → tie.Start
+begun c = start (c .before .before .before .before .before .before)
+
+abbrev tried : tie.After-slice-known9 → tie.After-bump
+tried c = c .before .before .before .before .before .before .before .before
+
+abbrev none-found : tie.After-next-sizes → tie.Else1
+none-found c = c .before .before
 
 slice-aggregate-bump : tie.Need-slice-aggregate-bump
-slice-aggregate-bump c = step-count (c .before .before .before .before .before .before .pre)
+slice-aggregate-bump c = step-count (start (c .before) .pre)
 
 bump-requires : tie.Need-bump-requires
-bump-requires c κs = step-held (c .before .before .before .before .before .before .before .before .before .before .pre)
-
-same-length : tie.Need-same-length
-same-length c = search needs
-
-same-length-2 : tie.Need-same-length-2
-same-length-2 c = search needs
-
-same-length-3 : tie.Need-same-length-3
-same-length-3 c = search needs
-
-same-length-4 : tie.Need-same-length-4
-same-length-4 c = search needs
-
-same-length-5 : tie.Need-same-length-5
-same-length-5 c = search needs
+bump-requires c κs = step-held (start (c .before .before .before .before .before) .pre)
 
 returns : tie.Need-returns
-returns c =
-    let found = c .before .before .before .before .before .before .before .before .before .bump in
-    let w = c .before .before .before .before .before .before .before .before .before .before .before .before .before .before .before .before .before .before .before .before .pre in
-    step-same w (found .result) _ (found .ensures) (c .if1 .taken)
+returns c = let b = tried (c .before) in step-same (begun b .pre) (b .bump .result) _ (b .bump .ensures) (c .if1 .taken)
 
 next-sizes-requires : tie.Need-next-sizes-requires
-next-sizes-requires c κs = step-room (c .before .before .before .before .before .before .before .before .before .before .before .before .before .before .before .before .before .before .before .before .before .pre)
-
-same-length-6 : tie.Need-same-length-6
-same-length-6 c = search needs
-
-same-length-7 : tie.Need-same-length-7
-same-length-7 c = search needs
-
-same-length-8 : tie.Need-same-length-8
-same-length-8 c = search needs
-
-same-length-9 : tie.Need-same-length-9
-same-length-9 c = search needs
-
-same-length-10 : tie.Need-same-length-10
-same-length-10 c = search needs
+next-sizes-requires c κs = step-room (begun (tried (c .before .before)) .pre)
 
 returns-2 : tie.Need-returns-2
 returns-2 c =
-    let found = c .before .before .before .before .before .before .before .before .before .before .before .before .before .before .bump in
-    let next = c .before .before .before .next-sizes in
-    let w = c .before .before .before .before .before .before .before .before .before .before .before .before .before .before .before .before .before .before .before .before .before .before .before .before .before .pre in
-    step-ends w (found .result) _ (found .ensures) (c .before .before .before .before .before .if1 .left) (next .result) _ (next .ensures) (c .if2 .taken) _
-
-set-all-requires : tie.Need-set-all-requires
-set-all-requires c κs = search needs
-
-same-length-11 : tie.Need-same-length-11
-same-length-11 c = search needs
-
-same-length-12 : tie.Need-same-length-12
-same-length-12 c = search needs
-
-same-length-13 : tie.Need-same-length-13
-same-length-13 c = search needs
-
-same-length-14 : tie.Need-same-length-14
-same-length-14 c = search needs
-
-same-length-15 : tie.Need-same-length-15
-same-length-15 c = search needs
+    let n = c .before .before .before in
+    let e = none-found n in
+    let b = tried (e .before) in
+    step-ends (begun b .pre) (b .bump .result) _ (b .bump .ensures) (e .if1 .left) (n .next-sizes .result) _ (n .next-sizes .ensures) (c .if2 .taken) _
 
 returns-3 : tie.Need-returns-3
 returns-3 c =
-    let found = c .before .before .before .before .before .before .before .before .before .before .before .before .before .before .before .before .before .before .bump in
-    let next = c .before .before .before .before .before .before .before .next-sizes in
-    let w = c .before .before .before .before .before .before .before .before .before .before .before .before .before .before .before .before .before .before .before .before .before .before .before .before .before .before .before .before .before .pre in
-    let none-found = c .before .before .before .before .before .before .before .before .before .if1 .left in
-    let all = c .before .before .set-all .ensures in
-    step-cycles w (found .result) _ (found .ensures) none-found (next .result) _ (next .ensures) (λ e. omega arith) (found .kept .1 .0) _ all
+    let all = c .before .before in
+    let n = all .before .before .before .before .before in
+    let e = none-found n in
+    let b = tried (e .before) in
+    step-cycles (begun b .pre) (b .bump .result) _ (b .bump .ensures) (e .if1 .left) (n .next-sizes .result) _ (n .next-sizes .ensures) (λ z. omega arith) (b .bump .kept .1 .0) _ (all .set-all .ensures)
 
 pub next-system-spec : {M : Type 1} → statement M
 next-system-spec =
     tie.close
     (tie.spec
-    slice-reshare-prefix-bump
+    (λ c. search needs)
     slice-aggregate-bump
     bump-requires
-    same-length
-    same-length-2
-    same-length-3
-    same-length-4
-    same-length-5
+    (λ c. search needs)
+    (λ c. search needs)
+    (λ c. search needs)
+    (λ c. search needs)
+    (λ c. search needs)
     returns
     next-sizes-requires
-    same-length-6
-    same-length-7
-    same-length-8
-    same-length-9
-    same-length-10
+    (λ c. search needs)
+    (λ c. search needs)
+    (λ c. search needs)
+    (λ c. search needs)
+    (λ c. search needs)
     returns-2
-    set-all-requires
-    same-length-11
-    same-length-12
-    same-length-13
-    same-length-14
-    same-length-15
+    (λ c κs. search needs)
+    (λ c. search needs)
+    (λ c. search needs)
+    (λ c. search needs)
+    (λ c. search needs)
+    (λ c. search needs)
     returns-3)

@@ -16,9 +16,6 @@ abbrev μ-loop : tie.MeasureT-loop
 loop-holds : tie.Need-loop-holds Inv-loop μ-loop
 loop-holds c = let a = c .before .before .args in numbering-start (now (a .s)) (now (a .out)) (a .at) (c .before .before .pre)
 
-shared-slice-read-put-number : tie.Need-shared-slice-read-put-number Inv-loop μ-loop
-shared-slice-read-put-number c = search needs
-
 cast-put-number : tie.Need-cast-put-number Inv-loop μ-loop
 cast-put-number c = omega (arith, c .shared-slice-known2 .given (c .before .before .loop .i))
 
@@ -26,12 +23,6 @@ put-number-requires : tie.Need-put-number-requires Inv-loop μ-loop
 put-number-requires c κs =
     let l = c .before .before .before .loop in
     (omega (arith, c .before .shared-slice-known2 .given (l .i)), numbering-fits (l .inv) (omega arith))
-
-add-i : tie.Need-add-i Inv-loop μ-loop
-add-i c = search needs
-
-loop-less : tie.Need-loop-less Inv-loop μ-loop
-loop-less c = search needs
 
 loop-again : tie.Need-loop-again Inv-loop μ-loop
 loop-again c = numbering-next (c .before .before .before .before .before .before .loop .inv) _ _ (omega arith) (c .before .before .put-number .ensures)
@@ -49,11 +40,11 @@ write-numbers-spec =
     Inv-loop
     μ-loop
     loop-holds
-    shared-slice-read-put-number
+    (λ c. search needs)
     cast-put-number
     put-number-requires
-    add-i
-    loop-less
+    (λ c. search needs)
+    (λ c. search needs)
     loop-again
     same-length
     returns)
