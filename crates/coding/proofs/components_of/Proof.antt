@@ -1,6 +1,6 @@
 use denote.Ref.{now}
 use mathlib.Core.Path.{sym, _∙_}
-use Rattle.cycles.proofs.Descending.{leader-yes, leader-no}
+use Rattle.links.proofs.Descending.{leader-yes, leader-no}
 use Prim.Native.Nat.{_-_}
 use Rattle.coding.proofs.Collecting.{Collecting, collecting-start, collecting-bound, collecting-trees, collecting-labels, collecting-skip, collecting-asked, collecting-insert, collecting-take, collecting-end}
 use native.Mathlib.Omega.{arith}

@@ -1,9 +1,9 @@
 use mathlib.Core.Path.{sym}
 use mathlib.Core.List.{[]}
 use Rattle.coding.proofs.Preparing.{links-places, links-asked}
-use Rattle.cycles.proofs.Linking.{last-within, before-within, links-back}
+use Rattle.links.proofs.Linking.{last-within, before-within, links-back}
 use Rattle.coding.proofs.Preparing.{leads-asked}
-use Rattle.cycles.proofs.Descending.{leads-within, leads-back}
+use Rattle.links.proofs.Descending.{leads-within, leads-back}
 use borrow.Author.Needs.{needs}
 use Rattle.coding.proofs.system_of.Statement.{statement}
 use Rattle.coding.proofs.system_of.Tie as tie
