@@ -3,6 +3,8 @@ use mathlib.Core.Path.{_≡_, refl, ap, ap₂, sym, _∙_, subst}
 use mathlib.Core.Logic.{_⊎_, inl, inr}
 use mathlib.Core.Bool.{Bool, true, false, not, cond, _&&_, _||_, true≢false}
 use mathlib.Core.List.{List, [], _∷_, _++_, map, List·Memᴰ·head, List·Memᴰ·tail, List·Memᴰ·cases-cons, List·Memᴰ·not-nil}
+use Prim.Native.Nat.{ℕ}
+use native.Mathlib.Omega.{arith}
 use Rattle.lists.specs.Select.{each, some-of}
 pub use Rattle.lists.specs.Members.{_∈_}
 
@@ -14,6 +16,10 @@ by-test false f g = g refl
 -- a test has one answer
 pub no-both {ℓ} : {P : Type ℓ} {b : Bool} → b ≡ true → b ≡ false → P
 no-both e f = absurd (true≢false (sym e ∙ f))
+
+-- two constructors are equal, says `cc`
+pub clash {ℓ} : {P : Type ℓ} → _≡_ {A = ℕ} 0 1 → P
+clash e = absurd (omega arith)
 
 -- cases on a sum
 pub either {ℓ ℓ′ ℓ″} : {A : Type ℓ} {B : Type ℓ′} {P : Type ℓ″} → A ⊎ B → (A → P) → (B → P) → P
