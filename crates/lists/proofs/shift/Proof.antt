@@ -1,8 +1,8 @@
 use denote.Ref.{now}
-use mathlib.Core.Path.{refl, _∙_}
+use mathlib.Core.Path.{refl}
 use Prim.Native.Nat.{_+_, _-_}
 use native.Mathlib.Omega.{arith}
-use lib.ListN.{getD, length-set}
+use lib.ListN.{length-set}
 use borrow.Author.Needs.{needs}
 use Rattle.lists.proofs.Shifting.{Shifting, shifting-start, shifting-next, shifting-stop}
 use Rattle.lists.proofs.shift.Statement.{statement}
@@ -34,7 +34,7 @@ slice-write-s-2 : tie.Need-slice-write-s-2 Inv-loop μ-loop
 slice-write-s-2 c = let w = c .before .loop .inv in omega (arith, w .same, c .before .before .before .pre)
 
 same-length : tie.Need-same-length Inv-loop μ-loop
-same-length c = let l = c .before .loop in let a = c .before .before .before .args in length-set (l .s) (a .a) (getD (now (a .s)) (a .b) 0) ∙ l .inv .same
+same-length c = simp length-set (c .before .loop .inv .same)
 
 returns : tie.Need-returns Inv-loop μ-loop
 returns c = shifting-stop (c .before .loop .inv) (omega (arith, c .before .before .before .pre)) (omega arith)
