@@ -57,7 +57,9 @@ module _ {f : List ℕ} (t : Table f) where
   pub system-back : {m : ℕ} {sizes trees labels : List ℕ} → SystemWritten f m sizes trees labels → length sizes ≡ length f → (a b c : List ℕ)
       → SystemWritten f m (take (length f) (sizes ++ a)) (take (length f) (trees ++ b)) (take (length f) (labels ++ c))
   system-back {m} {sizes} {trees} {labels} w e a b c =
-      rw (take-at sizes a (length f) e,
-          take-at trees b (length f) (ap length (w .trees-are) ∙ length-trees (systemOfTable f) ∙ table-weight (length f) f refl (t .table)),
-          take-at labels c (length f) (w .labels-are .points))
+      rw (
+        take-at sizes a (length f) e,
+        take-at trees b (length f) (ap length (w .trees-are) ∙ length-trees (systemOfTable f) ∙ table-weight (length f) f refl (t .table)),
+        take-at labels c (length f) (w .labels-are .points),
+      )
       w
