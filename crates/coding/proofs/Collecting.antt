@@ -21,7 +21,7 @@ use Rattle.patterns.proofs.Trees.{length-flat}
 use Rattle.patterns.proofs.Rotations.{rotated-perm, valid-nonempty}
 use Rattle.written.specs.Putting.{placed}
 use Rattle.map_theory.specs.Plants.{Plant, shape, root, labels, shapes, compareShapes, plantsAlong, joined}
-use Rattle.cycles.specs.Links.{Links}
+use Rattle.links.specs.Links.{Links}
 use Rattle.arrangement.specs.Arrangement.{Planted}
 use Rattle.coding.specs.Writing.{CycleAsked, ComponentWritten}
 use Rattle.arrangement.specs.Arrangement.{InsertAsked, ComponentInserted}

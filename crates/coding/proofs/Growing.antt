@@ -21,11 +21,11 @@ use Rattle.patterns.specs.Table.{image, hangsAt, hanging}
 use Rattle.patterns.proofs.Trees.{size-positive, size-graft, code-branches, branches-graft, length-flat}
 use Rattle.written.specs.Putting.{placed}
 use Rattle.map_theory.specs.Plants.{Plant, tip, shape, root, labels, plantOn, comparePlant, plantTo, plantAt}
-use Rattle.cycles.specs.Links.{lastBelow}
+use Rattle.links.specs.Links.{lastBelow}
 use Rattle.arrangement.specs.Arrangement.{Planted, SiblingsStand, Inserts}
 use Rattle.coding.specs.Writing.{Prepared, TreeAsked}
 use Rattle.lists.proofs.Gathering.{map-same}
-use Rattle.cycles.proofs.Linking.{last-skip, last-take, last-bound, last-hangs}
+use Rattle.links.proofs.Linking.{last-skip, last-take, last-bound, last-hangs}
 use Rattle.map_theory.proofs.PlantAt.{plantOn-shape, plantOn-labels}
 use Rattle.map_theory.proofs.Shown.{length-labels}
 use Rattle.memory.proofs.Standing.{stands-left, stands-path}

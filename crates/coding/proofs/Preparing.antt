@@ -5,8 +5,8 @@ use Prim.Native.Nat.{ℕ, _≤_}
 use native.Mathlib.Omega.{arith}
 use lib.ListN.{length, take, length-append}
 use lib.Seq.{length-take-le, take-at}
-use Rattle.cycles.specs.Links.{LinksAsked}
-use Rattle.cycles.specs.Leads.{LeadsAsked}
+use Rattle.links.specs.Links.{LinksAsked}
+use Rattle.links.specs.Leads.{LeadsAsked}
 use Rattle.patterns.specs.Table.{systemOfTable}
 use Rattle.memory.proofs.Parts.{length-trees}
 use Rattle.map_theory.proofs.Theorems.{table-weight}

@@ -9,8 +9,8 @@ use Rattle.patterns.specs.Table.{systemOfTable}
 use Rattle.patterns.specs.MapOf.{mapOf}
 use Rattle.patterns.specs.Isomorphism.{Isomorphism}
 use Rattle.cycles.specs.Marks.{Marked}
-use Rattle.cycles.specs.Links.{Links}
-use Rattle.cycles.specs.Leads.{Leads}
+use Rattle.links.specs.Links.{Links}
+use Rattle.links.specs.Leads.{Leads}
 use Rattle.coding.specs.declared.LabelledSystem.{LabelledSystem}
 use Rattle.coding.specs.Writing.{Prepared}
 

@@ -8,7 +8,7 @@ use Rattle.patterns.specs.Tree.{size}
 use Rattle.patterns.specs.Component.{points, validComponent}
 use Rattle.patterns.proofs.Rotations.{Rotated}
 use Rattle.patterns.specs.Table.{image, isTable, onCycle}
-use Rattle.cycles.specs.Links.{Links}
+use Rattle.links.specs.Links.{Links}
 use Rattle.map_theory.specs.Plants.{Plant, shape, plantAt, plantsAlong}
 use Rattle.arrangement.specs.Arrangement.{Planted}
 

@@ -2,9 +2,9 @@
 use arrangement::insert_component;
 use arrangement::insert_tree;
 use arrangement::least_start;
-use cycles::lead_cycles;
-use cycles::link_branches;
 use cycles::mark_cycles;
+use links::lead_cycles;
+use links::link_branches;
 use lists::exchange;
 use patterns::points_room;
 ghost use denote.Ref.{now};

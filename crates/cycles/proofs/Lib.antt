@@ -2,5 +2,3 @@
 pub mod Marks
 pub mod Marking
 pub mod Walking
-pub mod Descending
-pub mod Linking

@@ -1,4 +1,2 @@
 -- What the functions on the cycles of a table mean.
 pub mod Marks
-pub mod Links
-pub mod Leads

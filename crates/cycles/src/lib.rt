@@ -1,4 +1,4 @@
-// Tables: which points are on cycles, which lead one, how long the cycles are, and which points hang where.
+// Tables: which points are on cycles, and how long the cycles are.
 use bytes::copy;
 use lists::set_all;
 use patterns::points_room;
@@ -9,8 +9,6 @@ ghost use mathlib.Core.List.{List, map};
 ghost use Prim.Native.Nat.{ℕ, _+_, _<_};
 ghost use lib.ListN.{length};
 ghost use Rattle.patterns.specs.Table.{image, isTable};
-ghost use Rattle.cycles.specs.Links.{LinksAsked, Links};
-ghost use Rattle.cycles.specs.Leads.{Descends, LesserAsked, LeadsAsked, Leads};
 ghost use Rattle.cycles.specs.Marks.{lengthLed, MarksAsked, Images, Far, Marked, MarkedPoint};
 
 // `out` is the table of two steps of the table `s`.
@@ -72,24 +70,6 @@ pub fn mark_cycles(f: &[u8], marks: &mut [u8])
     mark_reached(f, &mut far[..f.len()], marks);
 }
 
-// Links through the points that hang at a point, each one more than the point that it leads to, or 0 where there is none: `last[x]` leads to the
-// greatest that hangs at x, `before[y]` to the next lesser one that hangs where y does.
-pub fn link_branches(f: &[u8], marks: &[u8], last: &mut [u8], before: &mut [u8])
-    requires { ⌜ LinksAsked (now f) (now marks) (now last) (now before) ⌝ }
-    ensures { λ r. ⌜ Links (now (f .entry)) (length (now (f .entry))) (now (last .exit)) (now (before .exit)) ⌝ }
-{
-    set_all(last, 0);
-    let mut y = 0;
-    while y < f.len() {
-        if marks[y] == 0 {
-            let x = f[y] as usize;
-            before[y] = last[x];
-            last[x] = (y + 1) as u8;
-        }
-        y += 1;
-    }
-}
-
 // The length of the cycle whose least point is `x`, and 0 where there is none.
 pub fn length_led(f: &[u8], marks: &[u8], x: usize) -> usize
     requires { ⌜ MarkedPoint (now f) (now marks) x ⌝ }
@@ -108,32 +88,4 @@ pub fn length_led(f: &[u8], marks: &[u8], x: usize) -> usize
         length += 1;
     }
     length
-}
-
-// The first point after `x` on its cycle that is not greater than `x`: `lesser` leads past the greater points between.
-fn next_lesser(f: &[u8], lesser: &[u8], x: usize) -> usize
-    requires { ⌜ LesserAsked (now f) (now lesser) x ⌝ }
-    ensures { λ r. ⌜ Descends (image (now (f .entry))) x r ⌝ }
-{
-    let mut y = f[x] as usize;
-    while x < y {
-        y = lesser[y] as usize;
-    }
-    y
-}
-
-// `leads` has x at place x exactly if x is the least point of a cycle.
-pub fn lead_cycles(f: &[u8], marks: &[u8], leads: &mut [u8])
-    requires { ⌜ LeadsAsked (now f) (now marks) (now leads) ⌝ }
-    ensures { λ r. ⌜ Leads (now (f .entry)) (now (leads .exit)) ⌝ }
-{
-    set_all(leads, 255);
-    let mut x = f.len();
-    while 0 < x {
-        x -= 1;
-        if marks[x] != 0 {
-            let y = next_lesser(f, leads, x);
-            leads[x] = y as u8;
-        }
-    }
 }

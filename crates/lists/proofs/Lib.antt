@@ -5,6 +5,7 @@ pub mod Lex
 pub mod Permute
 pub mod Sorting
 pub mod Blocks
+pub mod Shifting
 pub mod Members
 pub mod Places
 pub mod Rising

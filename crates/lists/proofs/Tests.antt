@@ -18,6 +18,7 @@ pub no-both {ℓ} : {P : Type ℓ} {b : Bool} → b ≡ true → b ≡ false →
 no-both e f = absurd (true≢false (sym e ∙ f))
 
 -- An equation of two different constructors proves anything: cite it as `clash cc`, for `cc` makes 0 ≡ 1 of it.
+-- two constructors are equal, says `cc`
 pub clash {ℓ} : {P : Type ℓ} → _≡_ {A = ℕ} 0 1 → P
 clash e = absurd (omega arith)
 

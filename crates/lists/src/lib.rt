@@ -1,7 +1,7 @@
 // Comparing two lists of bytes, exchanging two neighbouring blocks of a lent slice, and setting all its places to one number.
 ghost use denote.Ref.{now};
 ghost use mathlib.Core.Path.{_≡_};
-ghost use Prim.Native.Nat.{_≤_, compare as compareNumbers};
+ghost use Prim.Native.Nat.{suc, _≤_, _<_, compare as compareNumbers};
 ghost use lib.ListN.{length, replicate};
 ghost use Rattle.lists.specs.Order.{lex};
 ghost use Rattle.lists.specs.Blocks.{orderingOf, exchanged};
@@ -37,13 +37,31 @@ pub fn compare(s: &[u8], t: &[u8]) -> Order
     Order::Equal
 }
 
-// The blocks a..b and b..e of `s` change places; nothing else moves. An empty first block, the common case, costs nothing.
+// The byte at `b` goes to `a`, and those from there to `b` move up by one.
+fn shift(s: &mut [u8], a: usize, b: usize)
+    requires { ⌜ (a ≤ b) × (b < length (now s)) ⌝ }
+    ensures { λ r. ⌜ now (s .exit) ≡ exchanged a b (suc b) (now (s .entry)) ⌝ }
+{
+    let x = s[b];
+    let mut i = b;
+    while a < i {
+        i -= 1;
+        s[i + 1] = s[i];
+    }
+    s[a] = x;
+}
+
+// The blocks a..b and b..e of `s` change places; nothing else moves. An empty first block costs nothing, and a second block of one byte, as of a tree of
+// one point, is moved past the first in one pass: both are what most calls meet.
 pub fn exchange(s: &mut [u8], a: usize, b: usize, e: usize)
     requires { ⌜ (a ≤ b) × (b ≤ e) × (e ≤ length (now s)) ⌝ }
     ensures { λ r. ⌜ now (s .exit) ≡ exchanged a b e (now (s .entry)) ⌝ }
 {
     if a == b {
         return;
+    }
+    if e - b == 1 {
+        return shift(s, a, b);
     }
     bytes::reverse(s, a, b);
     bytes::reverse(s, b, e);

@@ -10,7 +10,7 @@ use lib.ListN.{length, drop, getD, drop-of-length-le}
 use lib.Seq.{drop-cons}
 use borrow.Author.Tests.{le-ltb, lt-ltb, ltb-false}
 use Rattle.lists.specs.Select.{each}
-use Rattle.lists.proofs.Tests.{by-test}
+use Rattle.lists.proofs.Tests.{by-test, clash}
 use Rattle.patterns.specs.declared.Refusal.{Refusal}
 use Rattle.patterns.specs.declared.Refusal.the-variants.{Count, Image}
 use Rattle.patterns.specs.Table.{isTable}
@@ -64,11 +64,11 @@ pub checked-table : (f : List ℕ) → checkedTable f ≡ done f → Table f
 unfolding checkedTable
 checked-table f e =
     by-test (ltb 200 (length f))
-    (λ large. absurd (let k : fault Count ≡ done f = sym (rw large) ∙ e in let z : _≡_ {A = ℕ} 0 1 = cc in omega arith))
+    (λ large. let k : fault Count ≡ done f = sym (rw large) ∙ e in clash cc)
     (λ small.
     by-test (isTable f)
     (λ t. record { table = t; small = ltb-false 200 (length f) small })
-    (λ t. absurd (let k : fault Image ≡ done f = sym (rw (small, t)) ∙ e in let z : _≡_ {A = ℕ} 0 1 = cc in omega arith)))
+    (λ t. let k : fault Image ≡ done f = sym (rw (small, t)) ∙ e in clash cc))
 
 -- What the reply says of the table.
 module _ (f : List ℕ) {r : Reply} (e : r ≡ tableReply (checkedTable f)) where
@@ -76,18 +76,18 @@ module _ (f : List ℕ) {r : Reply} (e : r ≡ tableReply (checkedTable f)) wher
   table-refused c q = of (checkedTable f) (sym q ∙ e)
     where
       of : (o : Result (List ℕ)) → Refused c ≡ tableReply o → o ≡ fault c
-      of (done g) p = absurd (let z : _≡_ {A = ℕ} 0 1 = cc in omega arith)
+      of (done g) p = clash cc
       of (fault d) p = let z : c ≡ d = cc in ap fault (sym z)
 
   pub table-checked : (n : ℕ) → r ≡ Length n → (checkedTable f ≡ done f) × (length f ≡ n) × Table f
   unfolding checkedTable
   table-checked n q =
       by-test (ltb 200 (length f))
-      (λ large. absurd (let k : Length n ≡ Refused Count = sym q ∙ e ∙ rw large in let z : _≡_ {A = ℕ} 0 1 = cc in omega arith))
+      (λ large. let k : Length n ≡ Refused Count = sym q ∙ e ∙ rw large in clash cc)
       (λ small.
       by-test (isTable f)
       (λ t.
       let k : Length n ≡ Length (length f) = sym q ∙ e ∙ rw (small, t) in
       let z : n ≡ length f = cc in
       (rw (small, t), sym z, record { table = t; small = ltb-false 200 (length f) small }))
-      (λ t. absurd (let k : Length n ≡ Refused Image = sym q ∙ e ∙ rw (small, t) in let z : _≡_ {A = ℕ} 0 1 = cc in omega arith)))
+      (λ t. let k : Length n ≡ Refused Image = sym q ∙ e ∙ rw (small, t) in clash cc))

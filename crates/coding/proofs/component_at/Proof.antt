@@ -1,72 +1,64 @@
 use denote.Ref.{now}
 use mathlib.Core.List.{map}
-use Rattle.map_theory.specs.Plants.{shape, plantsAlong}
-use Rattle.coding.proofs.TurnedLeast.{written-bound, written-part, turn-bound, turn-trees, turn-labels, component-written}
 use native.Mathlib.Omega.{arith}
 use borrow.Author.Needs.{needs}
+use Rattle.patterns.specs.Component.{Component}
+use Rattle.map_theory.specs.Plants.{shape, plantsAlong}
+use Rattle.arrangement.specs.Arrangement.{LeastStart}
+use Rattle.coding.specs.Writing.{CycleAsked}
+use Rattle.coding.proofs.TurnedLeast.{written-bound, written-part, turn-bound, turn-trees, turn-labels, component-written}
 use Rattle.coding.proofs.component_at.Statement.{statement}
 use Rattle.coding.proofs.component_at.Tie as tie
 
-trees-along-requires : tie.Need-trees-along-requires
-trees-along-requires c κs = search needs
+-- Where the trees are written, what was asked for; where the start of the least rotation is known, what it says of the trees.
+abbrev asked : (c : tie.After-trees-along) → let a = c .before .before .before .before .before .before .before .before .args in
+    CycleAsked (now (a .f)) (now (a .last)) (now (a .before)) (a .x) (now (a .trees)) (now (a .labels)) (a .at)
+asked c = c .before .before .before .before .before .before .before .before .pre
 
-sub-least-start : tie.Need-sub-least-start
-sub-least-start c = search needs
+abbrev around : tie.After-trees-along → Component
+around c = let a = c .before .before .before .before .before .before .before .before .args in map shape (plantsAlong (now (a .f)) (a .x))
 
-part-least-start-start : tie.Need-part-least-start-start
-part-least-start-start c = search needs
+abbrev along : tie.After-least-start → tie.After-trees-along
+along c = c .before .before .before .before .before .before .before
 
-part-least-start-end : tie.Need-part-least-start-end
-part-least-start-end c = search needs
+abbrev least : (c : tie.After-least-start) → LeastStart (around (along c)) (c .least-start .result)
+least c = c .least-start .ensures _ (written-part (asked (along c)) ((along c) .trees-along .ensures))
 
 least-start-requires : tie.Need-least-start-requires
 least-start-requires c κs =
-    let s = c .before .before .before .before .before .before .before .before .before .before .before .before .before .before in
-    record { trees = map shape (plantsAlong (now (s .args .f)) (s .args .x)); is = written-part (s .pre) (c .before .before .before .before .before .before .trees-along .ensures) }
+    let w = c .before .before .before .before .before .before in
+    record { trees = around w; is = written-part (asked w) (w .trees-along .ensures) }
 
 add-p : tie.Need-add-p
 add-p c =
-    let s = c .before .before .before .before .before .before .before .before .before .before .before .before .before .before .before in
-    let w = c .before .before .before .before .before .before .before .trees-along .ensures in
-    omega (arith, turn-bound (s .pre) w (c .least-start .ensures _ (written-part (s .pre) w)), written-bound (s .pre) w, s .pre .prepared .small)
+    let w = along c in
+    omega (arith, turn-bound (asked w) (w .trees-along .ensures) (least c), written-bound (asked w) (w .trees-along .ensures), (asked w) .prepared .small)
 
 exchange-requires : tie.Need-exchange-requires
-exchange-requires c κs =
-    let s = c .before .before .before .before .before .before .before .before .before .before .before .before .before .before .before .before in
-    let w = c .before .before .before .before .before .before .before .before .trees-along .ensures in
-    turn-trees (s .pre) w (c .before .least-start .ensures _ (written-part (s .pre) w))
+exchange-requires c κs = let l = c .before in turn-trees (asked (along l)) ((along l) .trees-along .ensures) (least l)
 
 exchange-requires-2 : tie.Need-exchange-requires-2
-exchange-requires-2 c κs =
-    let s = c .before .before .before .before .before .before .before .before .before .before .before .before .before .before .before .before .before .before .before .before in
-    let w = c .before .before .before .before .before .before .before .before .before .before .before .before .trees-along .ensures in
-    turn-labels (s .pre) w (c .before .before .before .before .before .least-start .ensures _ (written-part (s .pre) w))
-
-same-length : tie.Need-same-length
-same-length c = search needs
-
-same-length-2 : tie.Need-same-length-2
-same-length-2 c = search needs
+exchange-requires-2 c κs = let l = c .before .before .before .before .before in turn-labels (asked (along l)) ((along l) .trees-along .ensures) (least l)
 
 returns : tie.Need-returns
 returns c =
-    let s = c .before .before .before .before .before .before .before .before .before .before .before .before .before .before .before .before .before .before .before .before .before .before .before in
-    let w = c .before .before .before .before .before .before .before .before .before .before .before .before .before .before .before .trees-along .ensures in
-    rw (c .before .before .before .before .before .before .exchange .ensures, c .before .before .exchange2 .ensures)
-    (component-written (s .pre) w (c .before .before .before .before .before .before .before .before .least-start .ensures _ (written-part (s .pre) w)))
+    let second = c .before .before in
+    let first = second .before .before .before .before in
+    let l = first .before .before in
+    rw (first .exchange .ensures, second .exchange2 .ensures) (component-written (asked (along l)) ((along l) .trees-along .ensures) (least l))
 
 pub component-at-spec : {M : Type 1} → statement M
 component-at-spec =
     tie.close
     (tie.spec
-    trees-along-requires
-    sub-least-start
-    part-least-start-start
-    part-least-start-end
+    (λ c κs. search needs)
+    (λ c. search needs)
+    (λ c. search needs)
+    (λ c. search needs)
     least-start-requires
     add-p
     exchange-requires
     exchange-requires-2
-    same-length
-    same-length-2
+    (λ c. search needs)
+    (λ c. search needs)
     returns)

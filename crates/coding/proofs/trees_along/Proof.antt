@@ -18,13 +18,20 @@ Inv-loop f last before x trees₀ labels₀ at n end₀ y₀ trees labels end y 
 abbrev μ-loop : tie.MeasureT-loop
 μ-loop f last before x trees₀ labels₀ at n end₀ y₀ trees labels end y = length f - end
 
+-- At the loop, what was asked for, and how far the trees are written.
+abbrev asked : (c : tie.At-loop Inv-loop μ-loop) → let a = c .before .before .before .before .before .before .before .before .before .before .before .before .before .before .args in
+    CycleAsked (now (a .f)) (now (a .last)) (now (a .before)) (a .x) (now (a .trees)) (now (a .labels)) (a .at)
+asked c = c .before .before .before .before .before .before .before .before .before .before .before .before .before .before .pre
+
+abbrev circling : (c : tie.At-loop Inv-loop μ-loop) → let a = c .before .before .before .before .before .before .before .before .before .before .before .before .before .before .args in
+    Circling (now (a .f)) (a .x) (a .at) (now (a .trees)) (now (a .labels)) (c .loop .y) (c .loop .end) (c .loop .trees) (c .loop .labels)
+circling c = c .loop .inv _ _ (asked c) (c .before .before .before .before .before .before .tree-at .ensures _ (circling-first (asked c)))
+
 sub-tree-at : tie.Need-sub-tree-at Inv-loop μ-loop
 sub-tree-at c = omega (arith, c .before .before .before .before .before .pre .room)
 
 tree-at-requires : tie.Need-tree-at-requires Inv-loop μ-loop
-tree-at-requires c κs =
-    let s = c .before .before .before .before .before .before .before in
-    record { of = now (s .args .f); asked = circling-first (s .pre) }
+tree-at-requires c κs = let s = c .before .before .before .before .before .before .before in record { of = now (s .args .f); asked = circling-first (s .pre) }
 
 shared-slice-read-y : tie.Need-shared-slice-read-y Inv-loop μ-loop
 shared-slice-read-y c = c .before .before .before .before .before .before .before .before .before .before .before .before .before .pre .here
@@ -36,52 +43,43 @@ loop-holds : tie.Need-loop-holds Inv-loop μ-loop
 loop-holds c = λ d e a w. circling-start a w
 
 sub-tree-at-2 : tie.Need-sub-tree-at-2 Inv-loop μ-loop
-sub-tree-at-2 c =
-    let a = c .before .before .before .before .before .before .before .before .before .before .before .before .before .before .before .pre in
-    circling-bound a (c .before .loop .inv _ _ a (c .before .before .before .before .before .before .before .tree-at .ensures _ (circling-first a)))
+sub-tree-at-2 c = let l = c .before in circling-bound (asked l) (circling l)
 
 tree-at-requires-2 : tie.Need-tree-at-requires-2 Inv-loop μ-loop
 tree-at-requires-2 c κs =
-    let s = c .before .before .before .before .before .before .before .before .before .before .before .before .before .before .before .before .before in
-    let g = c .before .before .before .loop .inv _ _ (s .pre) (c .before .before .before .before .before .before .before .before .before .tree-at .ensures _ (circling-first (s .pre))) in
-    record { of = now (s .args .f); asked = circling-asked (s .pre) g (c .before .before .loop-test .taken) }
+    let t = c .before .before in
+    let l = t .before in
+    record { of = now (l .before .before .before .before .before .before .before .before .before .before .before .before .before .before .args .f); asked = circling-asked (asked l) (circling l) (t .loop-test .taken) }
 
 shared-slice-read-y-2 : tie.Need-shared-slice-read-y-2 Inv-loop μ-loop
-shared-slice-read-y-2 c =
-    let a = c .before .before .before .before .before .before .before .before .before .before .before .before .before .before .before .before .before .before .before .before .before .before .before .pre in
-    (c .before .before .before .before .before .before .before .before .before .loop .inv _ _ a (c .before .before .before .before .before .before .before .before .before .before .before .before .before .before .before .tree-at .ensures _ (circling-first a))) .here
+shared-slice-read-y-2 c = (circling (c .before .before .before .before .before .before .before .before .before)) .here
 
 cast-y-2 : tie.Need-cast-y-2 Inv-loop μ-loop
 cast-y-2 c = omega (arith, c .shared-slice-known5 .given (c .before .before .before .before .before .before .before .before .before .loop .y))
 
 loop-less : tie.Need-loop-less Inv-loop μ-loop
 loop-less c =
-    let a = c .before .before .before .before .before .before .before .before .before .before .before .before .before .before .before .before .before .before .before .before .before .before .before .pre in
-    let g = c .before .before .before .before .before .before .before .before .before .loop .inv _ _ a (c .before .before .before .before .before .before .before .before .before .before .before .before .before .before .before .tree-at .ensures _ (circling-first a)) in
-    let q = c .before .before .before .before .before .before .before .before .loop-test .taken in
-    circling-less a g q (c .before .before .before .before .before .tree-at2 .ensures _ (circling-asked a g q))
+    let w = c .before .before .before .before .before in
+    let t = w .before .before .before in
+    let l = t .before in
+    circling-less (asked l) (circling l) (t .loop-test .taken) (w .tree-at2 .ensures _ (circling-asked (asked l) (circling l) (t .loop-test .taken)))
 
 loop-again : tie.Need-loop-again Inv-loop μ-loop
 loop-again c =
-    λ d e a w.
-    let g = c .before .before .before .before .before .before .before .before .before .loop .inv d e a w in
-    let q = c .before .before .before .before .before .before .before .before .loop-test .taken in
-    circling-next a g q (c .before .before .before .before .before .tree-at2 .ensures _ (circling-asked a g q))
+    λ d e a r.
+    let w = c .before .before .before .before .before in
+    let t = w .before .before .before in
+    let g = t .before .loop .inv d e a r in
+    circling-next a g (t .loop-test .taken) (w .tree-at2 .ensures _ (circling-asked a g (t .loop-test .taken)))
 
 same-length : tie.Need-same-length Inv-loop μ-loop
-same-length c =
-    let a = c .before .before .before .before .before .before .before .before .before .before .before .before .before .before .before .pre in
-    circling-trees a (c .before .loop .inv _ _ a (c .before .before .before .before .before .before .before .tree-at .ensures _ (circling-first a))) ∙ sym (a .prepared .trees-room)
+same-length c = let l = c .before in circling-trees (asked l) (circling l) ∙ sym ((asked l) .prepared .trees-room)
 
 same-length-2 : tie.Need-same-length-2 Inv-loop μ-loop
-same-length-2 c =
-    let a = c .before .before .before .before .before .before .before .before .before .before .before .before .before .before .before .pre in
-    circling-labels a (c .before .loop .inv _ _ a (c .before .before .before .before .before .before .before .tree-at .ensures _ (circling-first a))) ∙ sym (a .prepared .labels-room)
+same-length-2 c = let l = c .before in circling-labels (asked l) (circling l) ∙ sym ((asked l) .prepared .labels-room)
 
 returns : tie.Need-returns Inv-loop μ-loop
-returns c =
-    let a = c .before .before .before .before .before .before .before .before .before .before .before .before .before .before .before .pre in
-    circling-end a (c .before .loop .inv _ _ a (c .before .before .before .before .before .before .before .tree-at .ensures _ (circling-first a))) (c .loop-test .left)
+returns c = let l = c .before in circling-end (asked l) (circling l) (c .loop-test .left)
 
 pub trees-along-spec : {M : Type 1} → statement M
 trees-along-spec =

@@ -1,6 +1,8 @@
 use denote.Ref.{now}
-use mathlib.Core.Path.{ap, _∙_}
+use mathlib.Core.Path.{_≡_, ap, _∙_}
+use Prim.Native.Nat.{suc}
 use native.Mathlib.Omega.{arith}
+use Rattle.lists.specs.Blocks.{exchanged}
 use Rattle.lists.proofs.Blocks.{R, three-reversals, exchanged-nothing}
 use borrow.Author.Needs.{needs}
 use Rattle.lists.proofs.exchange.Statement.{statement}
@@ -11,24 +13,19 @@ returns c =
     let a = c .before .before .args in
     exchanged-nothing (now (a .s)) (a .a) (a .b) (a .e) (omega arith) (omega arith) (omega arith)
 
-reverse-requires : tie.Need-reverse-requires
-reverse-requires c κs = search needs
-
-reverse-requires-2 : tie.Need-reverse-requires-2
-reverse-requires-2 c κs = search needs
-
-reverse-requires-3 : tie.Need-reverse-requires-3
-reverse-requires-3 c κs = search needs
-
-same-length : tie.Need-same-length
-same-length c = search needs
-
 returns-2 : tie.Need-returns-2
 returns-2 c =
+    let w = c .before .before in
+    let a = w .before .before .before .before .before .args in
+    let e : suc (a .b) ≡ a .e = omega arith in
+    w .shift .ensures ∙ ap (λ k. exchanged (a .a) (a .b) k (now (a .s))) e
+
+returns-3 : tie.Need-returns-3
+returns-3 c =
     let third = c .before .before in
     let second = third .before .before .before .before in
     let one = second .before .before .before .before in
-    let a = one .before .before .before .before .args in
+    let a = one .before .before .before .before .before .args in
     third .reverse3 .ensures
     ∙ ap (R (a .a) (a .e)) (second .reverse2 .ensures ∙ ap (R (a .b) (a .e)) (one .reverse .ensures))
     ∙ three-reversals (now (a .s)) (a .a) (a .b) (a .e) (omega arith) (omega arith) (omega arith)
@@ -36,4 +33,14 @@ returns-2 c =
 pub exchange-spec : {M : Type 1} → statement M
 exchange-spec =
     tie.close
-    (tie.spec returns reverse-requires reverse-requires-2 reverse-requires-3 same-length returns-2)
+    (tie.spec
+    returns
+    (λ c. search needs)
+    (λ c κs. search needs)
+    (λ c. search needs)
+    returns-2
+    (λ c κs. search needs)
+    (λ c κs. search needs)
+    (λ c κs. search needs)
+    (λ c. search needs)
+    returns-3)

@@ -11,9 +11,9 @@ use lib.ListN.{length, getD, take, set, replicate, length-append, length-set, le
 use lib.Seq.{take-at, getD-set-same, getD-set-other}
 use Rattle.lists.proofs.Tests.{by-test, no-both}
 use Rattle.patterns.specs.Table.{image, isTable, onCycle, hangsAt}
 use Rattle.cycles.specs.Marks.{Marked}
-use Rattle.cycles.specs.Links.{lastBelow, Links}
+use Rattle.links.specs.Links.{lastBelow, Links}
 use Rattle.cycles.proofs.Marks.{inside, marks-off, marks-on}
 
 module _ (f : List ℕ) (x : ℕ) where
   pub last-skip : (y : ℕ) → hangsAt (length f) (image f) x y ≡ false → lastBelow f x (suc y) ≡ lastBelow f x y

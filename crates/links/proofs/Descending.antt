@@ -11,10 +11,10 @@ use lib.Seq.{getD-set-same, getD-set-other, take-at}
 use Rattle.lists.proofs.Tests.{by-test, either, is-false, no-both}
 use Rattle.lists.proofs.Members.{in-cons-cases, in-list, in-moved}
 use Rattle.patterns.specs.Table.{image, onCycle, leadsCycle}
-use Rattle.cycles.specs.Leads.{Descends, Lesser, Leads}
+use Rattle.links.specs.Leads.{Descends, Lesser, Leads}
 use Rattle.map_theory.proofs.Orbits.{iterate, iterate-add, of-orbit, onCycle-moves, onCycle-back, iterate-inside}
 use Rattle.map_theory.proofs.Leaders.{cycle-period, in-cycle, leads-onCycle, leads-least, least-leads}
 use Rattle.cycles.proofs.Marks.{inside}
 
 module _ (n : ℕ) (f : ℕ → ℕ) where
   -- back at x, and only greater points on the way: x leads its cycle

@@ -3,15 +3,15 @@ use mathlib.Core.Path.{_≡_, ap, sym, _∙_}
 use mathlib.Core.Logic.{⊎-elim}
 use Prim.Native.Nat.{_-_, _≤_}
 use lib.ListN.{length, replicate}
-use Rattle.cycles.specs.Links.{Links}
+use Rattle.links.specs.Links.{Links}
 use Rattle.cycles.proofs.Marks.{inside}
-use Rattle.cycles.proofs.Linking.{links-none, links-skip, links-take}
+use Rattle.links.proofs.Linking.{links-none, links-skip, links-take}
 use native.Mathlib.Omega.{arith}
 use borrow.Author.Needs.{needs}
-use Rattle.cycles.proofs.link_branches.Statement.{statement}
-use Rattle.cycles.proofs.link_branches.Tie as tie
-use Rattle.cycles.proofs.link_branches.Reads as reads
-use Rattle.cycles.proofs.link_branches.Lts as lts
+use Rattle.links.proofs.link_branches.Statement.{statement}
+use Rattle.links.proofs.link_branches.Tie as tie
+use Rattle.links.proofs.link_branches.Reads as reads
+use Rattle.links.proofs.link_branches.Lts as lts
 use Rattle.lists.proofs.set_all.Reads as set-all-reads
 
 abbrev Inv-loop : tie.InvT-loop

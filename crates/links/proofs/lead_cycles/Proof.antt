@@ -4,11 +4,11 @@ use Prim.Native.Nat.{_+_, _-_, _<_}
 use lib.ListN.{length}
 use native.Mathlib.Omega.{arith}
 use borrow.Author.Needs.{needs}
-use Rattle.cycles.specs.Leads.{Lesser}
+use Rattle.links.specs.Leads.{Lesser}
 use Rattle.cycles.proofs.Marks.{marks-off, marks-on}
-use Rattle.cycles.proofs.Descending.{lesser-start, lesser-off, lesser-on, lesser-end}
-use Rattle.cycles.proofs.lead_cycles.Statement.{statement}
-use Rattle.cycles.proofs.lead_cycles.Tie as tie
+use Rattle.links.proofs.Descending.{lesser-start, lesser-off, lesser-on, lesser-end}
+use Rattle.links.proofs.lead_cycles.Statement.{statement}
+use Rattle.links.proofs.lead_cycles.Tie as tie
 
 abbrev Inv-loop : tie.InvT-loop
 Inv-loop f marks leads₀ x₀ leads x = Lesser f leads x

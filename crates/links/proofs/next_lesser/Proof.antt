@@ -2,10 +2,10 @@ use denote.Ref.{now}
 use native.Mathlib.Omega.{arith}
 use lib.ListN.{length}
 use Rattle.patterns.specs.Table.{image}
 use Rattle.cycles.proofs.Marks.{inside}
-use Rattle.cycles.proofs.Descending.{Ahead, ahead-start, ahead-next, ahead-onCycle, ahead-less, ahead-inside, ahead-end}
-use Rattle.cycles.proofs.next_lesser.Statement.{statement}
-use Rattle.cycles.proofs.next_lesser.Tie as tie
+use Rattle.links.proofs.Descending.{Ahead, ahead-start, ahead-next, ahead-onCycle, ahead-less, ahead-inside, ahead-end}
+use Rattle.links.proofs.next_lesser.Statement.{statement}
+use Rattle.links.proofs.next_lesser.Tie as tie
 
 abbrev Inv-loop : tie.InvT-loop
 Inv-loop f lesser x y₀ y = Ahead (length f) (image f) x y

@@ -1,0 +1,3 @@
+-- What the links and the leaders of a table are.
+pub mod Links
+pub mod Leads
