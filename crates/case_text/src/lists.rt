@@ -47,14 +47,20 @@ fn spread(text: &[u8], at: usize, period: usize, out: &mut [u8]) -> usize {
     next
 }
 
-// A list, written as its length, the length of a pattern and the pattern, which repeats until the length is reached.
+// A list, written as its length, the length of a pattern and the pattern, which repeats until the length is reached. A pattern that is longer than its list is read
+// whole, and then stands after the list too, where a comparison finds it.
 pub fn read(text: &[u8], at: usize) -> List {
     let size = numbers::token(text, at);
     let period = numbers::token(text, size.next);
+    let longer = numbers::greater(size.value, period.value);
     let mut bytes = blank();
-    let len = numbers::within(size.value, &bytes);
-    let next = spread(text, period.next, period.value, &mut bytes[0..len]);
-    List { bytes, len, next }
+    let end = numbers::within(longer, &bytes);
+    let next = spread(text, period.next, period.value, &mut bytes[0..end]);
+    List {
+        bytes,
+        len: size.value,
+        next,
+    }
 }
 
 // Whether two lists are the same, and so is all that stands after them.

@@ -47,6 +47,13 @@ pub fn sum(a: usize, b: usize) -> usize {
     a + b
 }
 
+pub fn greater(a: usize, b: usize) -> usize {
+    if a < b {
+        return b;
+    }
+    a
+}
+
 // The lesser of `k` and the length of `s`.
 pub fn within(k: usize, s: &[u8]) -> usize
     ensures { λ r. ⌜ r ≤ length (now (s .entry)) ⌝ }

@@ -9,7 +9,7 @@ fn run_file(name: &[u8], group: &[u8]) {
     let bytes = file.bytes;
     let len = numbers::within(file.len, &bytes);
     let text = &bytes[0..len];
-    let entries = entry_checks::run_cases(text);
+    let entries = entry_checks::cases::run_cases(text);
     scores::report(group, scores::sum(entries, census_checks::run_cases(text)));
 }
 
@@ -34,5 +34,5 @@ pub fn run() {
     run_refusals();
     run_answers();
     reader_checks::run(b"components");
-    pair_checks::run(b"pairs");
+    entry_checks::pairs::run(b"pairs");
 }

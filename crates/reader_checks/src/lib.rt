@@ -47,15 +47,20 @@ fn is_shown(code: &[u8], position: usize, part: List) -> bool {
     is_part(code, position, &bytes[0..len])
 }
 
+// Whether the answer at a position is the one of a case, and the part is the list.
+fn answers(code: &[u8], position: usize, kind: usize, value: usize, part: List) -> bool {
+    let reply = component_reader::stretch_of(code, position);
+    if !is_answer(reply, kind, value) {
+        return false;
+    }
+    is_shown(code, position, part)
+}
+
 // Whether a case holds: its code, its position, the kind and number of the answer, and the bytes that must be shown.
 fn holds(code: List, position: usize, kind: usize, value: usize, part: List) -> bool {
     let bytes = code.bytes;
     let len = numbers::within(code.len, &bytes);
-    let reply = component_reader::stretch_of(&bytes[0..len], position);
-    if !is_answer(reply, kind, value) {
-        return false;
-    }
-    is_shown(&bytes[0..len], position, part)
+    answers(&bytes[0..len], position, kind, value, part)
 }
 
 fn run_case(text: &[u8], place: usize) -> Turn {

@@ -1,8 +1,8 @@
 use Prim.Native.Nat.{_-_}
 use lib.ListN.{length}
 use borrow.Author.Needs.{needs}
-use Rattle.entry_checks.proofs.run_cases.Statement.{statement}
-use Rattle.entry_checks.proofs.run_cases.Tie as tie
+use Rattle.entry_checks.proofs.cases.run_cases.Statement.{statement}
+use Rattle.entry_checks.proofs.cases.run_cases.Tie as tie
 
 abbrev Inv-loop : tie.InvT-loop
 Inv-loop text held₀ total₀ place₀ held total place = Unit {0}

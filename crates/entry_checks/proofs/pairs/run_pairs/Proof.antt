@@ -1,8 +1,8 @@
 use Prim.Native.Nat.{_-_}
 use lib.ListN.{length}
 use borrow.Author.Needs.{needs}
-use Rattle.pair_checks.proofs.run_pairs.Statement.{statement}
-use Rattle.pair_checks.proofs.run_pairs.Tie as tie
+use Rattle.entry_checks.proofs.pairs.run_pairs.Statement.{statement}
+use Rattle.entry_checks.proofs.pairs.run_pairs.Tie as tie
 
 abbrev Inv-loop : tie.InvT-loop
 Inv-loop text runs₀ place₀ runs place = Unit {0}

@@ -1,7 +1,7 @@
 use Prim.Native.Nat.{_≤_, _-_}
 use borrow.Author.Needs.{needs}
-use Rattle.pair_checks.proofs.are_arrows.Statement.{statement}
-use Rattle.pair_checks.proofs.are_arrows.Tie as tie
+use Rattle.entry_checks.proofs.pairs.are_arrows.Statement.{statement}
+use Rattle.entry_checks.proofs.pairs.are_arrows.Tie as tie
 
 abbrev Inv-loop : tie.InvT-loop
 Inv-loop f g r x₀ x = x ≤ 10000

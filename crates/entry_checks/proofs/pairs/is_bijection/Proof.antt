@@ -2,8 +2,8 @@ use Prim.Native.Nat.{_≤_, _-_}
 use mathlib.Core.Path.{_≡_}
 use lib.ListN.{length}
 use borrow.Author.Needs.{needs}
-use Rattle.pair_checks.proofs.is_bijection.Statement.{statement}
-use Rattle.pair_checks.proofs.is_bijection.Tie as tie
+use Rattle.entry_checks.proofs.pairs.is_bijection.Statement.{statement}
+use Rattle.entry_checks.proofs.pairs.is_bijection.Tie as tie
 
 abbrev Inv-loop : tie.InvT-loop
 Inv-loop r seen₀ x₀ seen x = (x ≤ 10000) × (length seen ≡ 256)
