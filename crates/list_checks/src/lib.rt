@@ -1,0 +1,27 @@
+// Compares the list of all codes with what is known by other means: how many codes it has and how many of them are connected, and the text that the listing program
+// writes. All uses of the crate `listing` stand here.
+pub mod programs;
+pub mod totals;
+
+use case_text::scores;
+use case_text::scores::Score;
+
+// The totals, the connected ones, and the listings of 0 to 8 points.
+pub fn run() {
+    let found = totals::totals();
+    scores::report(
+        b"totals",
+        Score {
+            held: found.codes,
+            total: 9,
+        },
+    );
+    scores::report(
+        b"connected",
+        Score {
+            held: found.connected,
+            total: 9,
+        },
+    );
+    scores::report(b"plain listings", programs::listings());
+}
