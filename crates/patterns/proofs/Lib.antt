@@ -4,3 +4,4 @@ pub mod Rotations
 pub mod Bridges
 pub mod Sheet
 pub mod Totals
+pub mod ListingExamples

@@ -10,4 +10,6 @@ pub mod MapOf
 pub mod Isomorphism
 pub mod Census
 pub mod Entry
+pub mod Decimal
+pub mod ListingText
 pub mod Sheet
