@@ -78,16 +78,9 @@ fn run_listing(n: u8) -> bool {
     let name = [b'l', b'i', b's', b't', b'i', b'n', b'g', b'_', digit(n)];
     let mut file = io::large_buffer();
     let size = load(&name, &mut file);
-    let mut code = output_room();
-    let mut next = output_room();
+    let input = [digit(n), b'\n'];
     let mut out = io::large_buffer();
-    lists::is_listing(
-        numbers::wide(n),
-        &file[0..size],
-        &mut code,
-        &mut next,
-        &mut out,
-    )
+    lists::is_listing(&input, &file[0..size], &mut out)
 }
 
 fn digit(n: u8) -> u8 {

@@ -27,6 +27,25 @@ fn is_connected(code: &[u8]) -> bool {
     code[1] == 1
 }
 
+// Writes the successor of the code in the first `len` places of `code` over it, by way of `next`, and answers what the engine answered.
+fn advance(code: &mut [u8], len: usize, next: &mut [u8]) -> Successor {
+    if code.len() < len {
+        return Successor::Last;
+    }
+    let step = engine::successor(&code[0..len], next);
+    let Successor::Length(k) = step else {
+        return step;
+    };
+    if next.len() < k {
+        return Successor::Last;
+    }
+    if code.len() < k {
+        return Successor::Last;
+    }
+    bytes::copy(&next[0..k], code);
+    step
+}
+
 // Goes through the list of n points. A list that ends otherwise than by "last" counts as empty.
 fn count_codes(n: usize, code: &mut [u8], next: &mut [u8]) -> Tally {
     let first = engine::first(n, code);
@@ -42,7 +61,7 @@ fn count_codes(n: usize, code: &mut [u8], next: &mut [u8]) -> Tally {
     while codes < LIMIT {
         codes += 1;
         connected = numbers::counted(connected, is_connected(code));
-        let step = listing::advance(code, len, next);
+        let step = advance(code, len, next);
         let Successor::Length(k) = step else {
             return ended(step, codes, connected);
         };
@@ -84,9 +103,9 @@ pub fn totals() -> Tally {
     Tally { codes, connected }
 }
 
-// Whether what the listing program writes for n points is the text.
-pub fn is_listing(n: usize, text: &[u8], code: &mut [u8], next: &mut [u8], out: &mut [u8]) -> bool {
-    let end = listing::list(n, code, next, out);
+// Whether what the listing program writes for an input is the text.
+pub fn is_listing(input: &[u8], text: &[u8], out: &mut [u8]) -> bool {
+    let end = listing::text_into(input, out);
     if out.len() < end {
         return false;
     }

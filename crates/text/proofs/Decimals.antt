@@ -12,12 +12,12 @@ use Rattle.io.specs.Digits.{glyph, digits, Fewest}
 use Rattle.lists.proofs.Tests.{by-test}
 use Rattle.patterns.specs.Decimal.{digitsWithin, decimal}
 
-within-one : (f x : ℕ) → x < 10 → digitsWithin f x ≡ (48 + x) ∷ []
+pub within-one : (f x : ℕ) → x < 10 → digitsWithin f x ≡ (48 + x) ∷ []
 unfolding digitsWithin
 within-one zero x h = let e : x % 10 ≡ x = omega arith in rw e
 within-one (suc f) x h = rw (lt-ltb x 10 h, digitsWithin)
 
-within-more : (f x : ℕ) → 10 ≤ x → digitsWithin (suc f) x ≡ digitsWithin f (x / 10) ++ ((48 + x % 10) ∷ [])
+pub within-more : (f x : ℕ) → 10 ≤ x → digitsWithin (suc f) x ≡ digitsWithin f (x / 10) ++ ((48 + x % 10) ∷ [])
 unfolding digitsWithin
 within-more f x h = rw (le-ltb x 10 h, digitsWithin)
 

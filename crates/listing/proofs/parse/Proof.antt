@@ -3,7 +3,7 @@ use Prim.Native.Nat.{_-_}
 use native.Mathlib.Omega.{arith}
 use lib.ListN.{getD}
 use Rattle.listing.specs.Count.{Reads, good, bad}
-use Rattle.listing.proofs.Lines.{OneDigit, TwoDigits, one-digit, two-digits, no-line}
+use Rattle.listing.proofs.Inputs.{OneDigit, TwoDigits, one-digit, two-digits, no-line}
 use borrow.Author.Needs.{needs}
 use Rattle.listing.proofs.parse.Statement.{statement}
 use Rattle.listing.proofs.parse.Tie as tie

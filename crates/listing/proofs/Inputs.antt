@@ -1,15 +1,16 @@
 -- The inputs that are lines of a count from 0 to 14, told by their length and their bytes.
 use mathlib.Core.Path.{_≡_, refl, ap, ap₂, sym, _∙_}
 use mathlib.Core.Logic.{_⊎_, inl, inr, ⊎-elim}
-use mathlib.Core.Bool.{Bool, true, false, cond}
-use mathlib.Core.List.{List, [], _∷_}
+use mathlib.Core.List.{List, [], _∷_, _++_}
 use Prim.Native.Nat.{ℕ, zero, suc, _+_, _-_, _/_, _%_, _<_, _≤_}
 use native.Mathlib.Omega.{arith}
 use lib.Dec.{ltb}
 use lib.ListN.{length, getD}
 use borrow.Author.Tests.{lt-ltb, le-ltb, ltb-true, ltb-false}
 use Rattle.lists.proofs.Tests.{by-test}
-use Rattle.listing.specs.Count.{line}
+use Rattle.patterns.specs.Decimal.{decimal}
+use Rattle.patterns.specs.ListingText.{countLine}
+use Rattle.text.proofs.Decimals.{within-one, within-more}
 
 -- one digit and a newline
 pub record OneDigit (s : List ℕ) : Type 0 where
@@ -50,28 +51,43 @@ form-two s n h k e =
     let second : getD s 1 0 ≡ 48 + n % 10 = ap (λ l. getD l 1 0) e in
     record { three = ap length e; ten = omega arith; least = omega arith; most = omega arith; newline = ap (λ l. getD l 2 0) e }
 
+-- the line of a count of one digit, and of two
+line-one : (n : ℕ) → n < 10 → countLine n ≡ (48 + n) ∷ 10 ∷ []
+unfolding countLine
+line-one n h = ap (λ l. l ++ (10 ∷ [])) (within-one n n h)
+
+line-two : (n : ℕ) → 10 ≤ n → n < 100 → countLine n ≡ (48 + n / 10) ∷ (48 + n % 10) ∷ 10 ∷ []
+unfolding countLine
+line-two zero h k = absurd (omega arith)
+line-two (suc n) h k =
+    ap (λ l. l ++ (10 ∷ [])) (within-more n (suc n) h ∙ ap (λ l. l ++ ((48 + suc n % 10) ∷ [])) (within-one n (suc n / 10) (omega arith)))
+
 -- the line of a count from 0 to 14 has one of the two forms
-pub line-form : (s : List ℕ) (n : ℕ) → n ≤ 14 → s ≡ line n → OneDigit s ⊎ TwoDigits s
+pub line-form : (s : List ℕ) (n : ℕ) → n ≤ 14 → s ≡ countLine n → OneDigit s ⊎ TwoDigits s
 line-form s n h e =
     by-test (ltb n 10)
-    (λ t. inl (form-one s n (omega (arith, ltb-true n 10 t)) (rw (t, cond) at e)))
-    (λ t. inr (form-two s n h (omega (arith, ltb-false n 10 t)) (rw (t, cond) at e)))
+    (λ t. let g = ltb-true n 10 t in inl (form-one s n g (e ∙ line-one n g)))
+    (λ t. let g = ltb-false n 10 t in inr (form-two s n h g (e ∙ line-two n g (omega arith))))
 
 -- a line of one digit is the line of its count
-pub one-digit : (s : List ℕ) → OneDigit s → s ≡ line (getD s 0 0 - 48)
+pub one-digit : (s : List ℕ) → OneDigit s → s ≡ countLine (getD s 0 0 - 48)
 one-digit s h =
     let first : 48 + (getD s 0 0 - 48) ≡ getD s 0 0 = omega arith in
-    rw (lt-ltb (getD s 0 0 - 48) 10 (omega arith), cond, first)
+    rw (line-one (getD s 0 0 - 48) (omega arith), first)
     (two-bytes s (h .two) ∙ ap (λ x. getD s 0 0 ∷ x ∷ []) (h .newline))
 
 -- a line of two digits is the line of its count
-pub two-digits : (s : List ℕ) → TwoDigits s → s ≡ line (getD s 1 0 - 38)
+pub two-digits : (s : List ℕ) → TwoDigits s → s ≡ countLine (getD s 1 0 - 38)
 two-digits s h =
     let tens : 48 + (getD s 1 0 - 38) / 10 ≡ 49 = omega arith in
     let ones : 48 + (getD s 1 0 - 38) % 10 ≡ getD s 1 0 = omega arith in
-    rw (le-ltb (getD s 1 0 - 38) 10 (omega arith), cond, tens, ones)
+    rw (line-two (getD s 1 0 - 38) (omega arith) (omega arith), tens, ones)
     (three-bytes s (h .three) ∙ ap₂ (λ x y. x ∷ getD s 1 0 ∷ y ∷ []) (h .ten) (h .newline))
 
 -- what has neither form is the line of no count from 0 to 14
-pub no-line : (s : List ℕ) → (OneDigit s → ⊥) → (TwoDigits s → ⊥) → (n : ℕ) → n ≤ 14 → s ≡ line n → ⊥
+pub no-line : (s : List ℕ) → (OneDigit s → ⊥) → (TwoDigits s → ⊥) → (n : ℕ) → n ≤ 14 → s ≡ countLine n → ⊥
 no-line s one two n h e = ⊎-elim one two (line-form s n h e)
+
+-- and is short
+pub line-short : (n : ℕ) → n ≤ 14 → length (countLine n) ≤ 3
+line-short n h = ⊎-elim (λ o. omega (arith, o .two)) (λ o. omega (arith, o .three)) (line-form (countLine n) n h refl)

@@ -1,0 +1,67 @@
+use denote.Ref.{now}
+use mathlib.Core.Path.{_≡_, refl, sym}
+use Prim.Native.Nat.{_-_, _≤_, _<_}
+use native.Mathlib.Omega.{arith}
+use lib.ListN.{length}
+use borrow.Author.Needs.{needs}
+use Rattle.lister.specs.Remaining.{remaining}
+use Rattle.listing.proofs.Filling.{Filling, filling-starts, filling-more, filling-done, filling-full}
+use Rattle.listing.proofs.piece.Statement.{statement}
+use Rattle.listing.proofs.piece.Tie as tie
+
+abbrev Inv-loop : tie.InvT-loop
+Inv-loop out₀ at₀ next₀ out at next = Filling (remaining next₀) out₀ out at next
+
+abbrev μ-loop : tie.MeasureT-loop
+μ-loop out₀ at₀ next₀ out at next = length out - at
+
+loop-holds : tie.Need-loop-holds Inv-loop μ-loop
+loop-holds c =
+    let a = c .before in
+    filling-starts (now (a .args .out)) (a .args .state) (a .pre .0) (a .pre .1)
+
+sub-loop : tie.Need-sub-loop Inv-loop μ-loop
+sub-loop c = c .loop .inv .within
+
+put-next-requires : tie.Need-put-next-requires Inv-loop μ-loop
+put-next-requires c κs = (c .before .before .loop .inv .good, omega (arith, c .before .before .loop .inv .within))
+
+same-length : tie.Need-same-length Inv-loop μ-loop
+same-length c = search needs
+
+returns : tie.Need-returns Inv-loop μ-loop
+returns c = filling-done (c .before .before .before .before .before .before .before .loop .inv) _ (c .before .before .before .before .put-next .ensures) (omega arith)
+
+loop-less : tie.Need-loop-less Inv-loop μ-loop
+loop-less c =
+    let p = c .before .before .before .before .before .put-next .ensures in
+    let same : length (c .before .before .before .before .before .put-next .last .1 .0) ≡ length (c .before .before .before .before .before .before .before .before .loop .out) = search needs in
+    omega (arith, p .from, p .within, same)
+
+loop-again : tie.Need-loop-again Inv-loop μ-loop
+loop-again c =
+    let p = c .before .before .before .before .before .put-next .ensures in
+    let same : length (c .before .before .before .before .before .put-next .last .1 .0) ≡ length (c .before .before .before .before .before .before .before .before .loop .out) = search needs in
+    filling-more (c .before .before .before .before .before .before .before .before .loop .inv) _ p same (omega (arith, p .from))
+
+same-length-2 : tie.Need-same-length-2 Inv-loop μ-loop
+same-length-2 c = search needs
+
+returns-2 : tie.Need-returns-2 Inv-loop μ-loop
+returns-2 c = filling-full (c .before .loop .inv) _ refl refl (omega arith)
+
+pub piece-spec : {M : Type 1} → statement M
+piece-spec =
+    tie.close
+    (tie.spec
+    Inv-loop
+    μ-loop
+    loop-holds
+    sub-loop
+    put-next-requires
+    same-length
+    returns
+    loop-less
+    loop-again
+    same-length-2
+    returns-2)
