@@ -47,9 +47,10 @@ ready : (n : ℕ) → n ≤ 14 → (e r : List System) (S : System) → codes n 
 ready n small e r S cut s p phase place len text =
     let C : Coming (p + 1) (take (s .len) (s .code)) =
     record { n = n; small = small; earlier = e; now = S; later = r; cut = cut; place = omega arith; bytes = text } in
-    let fits = here-fits n small e r S cut in
-    (record { good = rw phase (omega arith, C) },
-    text-of s phase ∙ ap (linesAfter p) (coming-from C))
+    let fits = here-fits n small e r S cut in (
+      record { good = rw phase (omega arith, C) },
+      text-of s phase ∙ ap (linesAfter p) (coming-from C),
+    )
 
 -- states without a code are good in any case
 pub done-state : (s : State) → s .phase ≡ Done → Good s × (remaining s ≡ [])

@@ -45,7 +45,11 @@ pub fn state_at(phase: Phase) -> State
     ensures { λ r. ⌜ r .phase ≡ phase ⌝ }
 {
     let code = room();
-    State { phase, code, len: 0 }
+    State {
+        phase,
+        code,
+        len: 0,
+    }
 }
 
 // After the header of n points.
@@ -55,7 +59,11 @@ fn first_state(n: usize) -> State
 {
     let mut code = room();
     match engine::first(n, &mut code) {
-        Reply::Length(len) => State { phase: Phase::Line(0), code, len },
+        Reply::Length(len) => State {
+            phase: Phase::Line(0),
+            code,
+            len,
+        },
         Reply::Refused(_) => state_at(Phase::Done),
     }
 }
@@ -67,7 +75,11 @@ fn next_state(count: usize, shown: &[u8]) -> State
 {
     let mut code = room();
     match engine::successor(shown, &mut code) {
-        Successor::Length(len) => State { phase: Phase::Line(count), code, len },
+        Successor::Length(len) => State {
+            phase: Phase::Line(count),
+            code,
+            len,
+        },
         Successor::Last => state_at(Phase::Total(count)),
         Successor::Refused(_) => state_at(Phase::Done),
     }
@@ -111,6 +123,9 @@ pub fn put_next(state: State, out: &mut [u8], at: usize) -> Step
             let next = state_at(Phase::Done);
             Step { len: end, next }
         }
-        Phase::Done => Step { len: at, next: state },
+        Phase::Done => Step {
+            len: at,
+            next: state,
+        },
     }
 }

@@ -23,7 +23,7 @@ pub record Filling (t out₀ out : List ℕ) (at : ℕ) (next : State) : Type 0 
   pub text : take at out ++ remaining next ≡ t
   pub begun : at ≡ 0 → 4096 ≤ length out
 
-pub no-text : (l : List ℕ) → length l ≡ 0 → l ≡ []
+no-text : (l : List ℕ) → length l ≡ 0 → l ≡ []
 no-text [] e = refl
 no-text (x ∷ l) e = absurd (omega arith)
 
@@ -67,8 +67,15 @@ module _ {t out₀ out : List ℕ} {at : ℕ} {next : State} (l : Filling t out�
 
       nothing-after : length (remaining (r .next)) ≡ 0
       nothing-after =
-          omega (arith, ap length (p .text), length-append (take (r .len) after) (remaining (r .next)), length-append (take at out) (remaining next),
-          length-take-le at out (l .within), length-take-le (r .len) after (p .within), nothing-left)
+          omega (
+            arith,
+            ap length (p .text),
+            length-append (take (r .len) after) (remaining (r .next)),
+            length-append (take at out) (remaining next),
+            length-take-le at out (l .within),
+            length-take-le (r .len) after (p .within),
+            nothing-left,
+          )
 
       pub filling-done : Filled t out₀ r after
       filling-done = record {
@@ -95,6 +102,16 @@ first-piece {t} {u} {before} {after} r e p h = record {
 pub no-piece : (t before : List ℕ) → length before < 4096 → FirstPiece t before 0 before
 no-piece t before h =
     record { rest = t; text = refl; within = omega arith; short = λ k. (refl, refl); whole = λ k. absurd (omega arith) }
+
+-- an empty piece says that nothing was left, and nothing is
+pub empty-piece : (t : List ℕ) {before after : List ℕ} (r : Step) → Put t 0 before r after → r .len ≡ 0 → t ≡ []
+empty-piece t r p e =
+    by-test (ltb 0 (length t))
+    (λ z. absurd (omega (arith, p .more (ltb-true 0 (length t) z))))
+    (λ z. no-text t (omega (arith, ltb-false 0 (length t) z)))
+
+pub none-left : (t : List ℕ) {before after : List ℕ} (r : Step) → Put t 0 before r after → r .len ≡ 0 → remaining (r .next) ≡ []
+none-left t {before} {after} r p e = ap (λ n. take n after ++ remaining (r .next)) (sym e) ∙ p .text ∙ empty-piece t r p e
 
 -- after a piece that is not empty less text is left
 pub less-left : {t before after : List ℕ} (r : Step) → Put t 0 before r after → 0 < r .len → length (remaining (r .next)) < length t

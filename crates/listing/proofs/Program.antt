@@ -4,14 +4,12 @@ use borrow.Fn.Kinds.{Dens}
 use denote.Ref.{now}
 use mathlib.Core.Path.{_≡_, refl, ap, sym, _∙_}
 use mathlib.Core.List.{List, [], _∷_, _++_, append-nil}
-use Prim.Native.Nat.{ℕ, _≤_, _<_}
+use Prim.Native.Nat.{ℕ, _≤_}
 use native.Mathlib.Omega.{arith}
-use lib.Dec.{ltb}
 use lib.ListN.{length, take}
 use lib.Seq.{take-length}
-use borrow.Author.Tests.{ltb-true, ltb-false}
 use Rattle.lists.specs.Select.{gather}
-use Rattle.lists.proofs.Tests.{_∈_, by-test}
+use Rattle.lists.proofs.Tests.{_∈_}
 use Rattle.lists.proofs.Members.{in-head}
 use Rattle.patterns.specs.ListingText.{counts, textFor, outputOf}
 use Rattle.lister.specs.declared.State.{State}
@@ -21,7 +19,7 @@ use Rattle.lister.specs.Remaining.{remaining}
 use Rattle.lister.specs.Good.{Good}
 use Rattle.lister.specs.Put.{Put}
 use Rattle.listing.specs.Pieces.{Pieces, ended, handed}
-use Rattle.listing.proofs.Filling.{no-text}
+use Rattle.listing.proofs.Filling.{empty-piece}
 use Rattle.listing.proofs.Outputs.{output-counts, counts-small, first-four}
 use Rattle.listing.proofs.start.Reads as start
 use Rattle.listing.proofs.start.Kinds as start-kinds
@@ -39,10 +37,7 @@ piece-tied κs a r s p = p .put
 
 -- pieces are the text that their state stands for
 pub pieces-whole : {s : State} {pieces : List (List ℕ)} → Pieces s pieces → gather (λ p. p) pieces ≡ remaining s
-pieces-whole {s} (ended r before after p e) =
-    by-test (ltb 0 (length (remaining s)))
-    (λ t. absurd (omega (arith, p .more (ltb-true 0 (length (remaining s)) t))))
-    (λ t. sym (no-text (remaining s) (omega (arith, ltb-false 0 (length (remaining s)) t))))
+pieces-whole {s} (ended r before after p e) = sym (empty-piece (remaining s) r p e)
 pieces-whole {s} (handed r before after p more) = ap (take (r .len) after ++_) (pieces-whole more) ∙ p .text
 
 -- Whatever the input is: the program reads four bytes of it, `start` gives the first state for them, and the pieces from that state on are the whole text.
@@ -73,7 +68,8 @@ start-exists input =
     (r .0, r .1, r .2 ∙ sym (output-counts (take 4 input)))
 
 pub pieces-exist : (s : State) → (pieces : List (List ℕ)) × Pieces s pieces
-pieces-exist s =
-    (take (length (remaining s)) (remaining s) ∷ [],
-    handed (record { len = length (remaining s); next = done-state }) [] (remaining s) (whole-put (remaining s))
-    (ended (record { len = 0; next = done-state }) [] [] (whole-put []) refl))
+pieces-exist s = (
+  take (length (remaining s)) (remaining s) ∷ [],
+  handed (record { len = length (remaining s); next = done-state }) [] (remaining s) (whole-put (remaining s))
+      (ended (record { len = 0; next = done-state }) [] [] (whole-put []) refl),
+)

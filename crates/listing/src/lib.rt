@@ -8,6 +8,7 @@ use lister::put_next;
 use lister::state_at;
 ghost use denote.Ref.{now};
 ghost use mathlib.Core.Path.{_≡_};
+ghost use mathlib.Core.List.{[]};
 ghost use Prim.Native.Nat.{_≤_};
 ghost use lib.ListN.{length};
 ghost use Rattle.patterns.specs.ListingText.{outputOf};
@@ -110,21 +111,20 @@ fn buffer() -> [u8; 16384]
     [0; 16384]
 }
 
-// Writes the text that is to come, piece after piece, to standard output.
-fn write_pieces(first: State, out: &mut [u8])
+// Writes the text that is to come, piece after piece, to standard output, and answers the last state: it ends only where nothing is left.
+fn write_pieces(first: State, out: &mut [u8]) -> State
     requires { ⌜ Good first × (4096 ≤ length (now out)) ⌝ }
+    ensures { λ r. ⌜ remaining r ≡ [] ⌝ }
 {
     let mut state = first;
     loop {
         let step = piece(state, out);
         let len = step.len;
-        if len == 0 {
-            return;
-        }
-        if !io::write_all(STDOUT_FILENO, &out[..len]) {
-            return;
-        }
         state = step.next;
+        if len == 0 {
+            return state;
+        }
+        io::write_all(STDOUT_FILENO, &out[..len]);
     }
 }
 

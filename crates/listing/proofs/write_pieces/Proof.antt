@@ -1,12 +1,12 @@
 use mathlib.Core.Path.{_≡_, refl, sym, _∙_}
-use Prim.Native.Nat.{_≤_, _<_}
+use Prim.Native.Nat.{_≤_}
 use native.Mathlib.Omega.{arith}
 use lib.ListN.{length}
 use lib.Seq.{length-take-le}
 use borrow.Author.Needs.{needs}
 use Rattle.lister.specs.Remaining.{remaining}
 use Rattle.lister.specs.Good.{Good}
-use Rattle.listing.proofs.Filling.{less-left}
+use Rattle.listing.proofs.Filling.{none-left, less-left}
 use Rattle.listing.proofs.write_pieces.Statement.{statement}
 use Rattle.listing.proofs.write_pieces.Tie as tie
 
@@ -22,35 +22,23 @@ loop-holds c = (c .before .pre .0, c .before .pre .1, refl)
 piece-requires : tie.Need-piece-requires Inv-loop μ-loop
 piece-requires c κs = (c .before .loop .inv .0, c .before .loop .inv .1)
 
-same-length : tie.Need-same-length Inv-loop μ-loop
-same-length c = search needs
-
 returns : tie.Need-returns Inv-loop μ-loop
-returns c = tt
+returns c = none-left (remaining (c .before .before .before .before .before .before .loop .state)) (c .before .before .before .before .piece .result) (c .before .before .before .before .piece .ensures .put) (omega arith)
 
 slice-reshare-prefix-write-all : tie.Need-slice-reshare-prefix-write-all Inv-loop μ-loop
-slice-reshare-prefix-write-all c = c .before .before .before .piece .ensures .put .within
+slice-reshare-prefix-write-all c = c .before .before .before .before .piece .ensures .put .within
 
 slice-aggregate-write-all : tie.Need-slice-aggregate-write-all Inv-loop μ-loop
-slice-aggregate-write-all c = sym (length-take-le _ _ (c .before .before .before .before .piece .ensures .put .within))
-
-write-all-requires : tie.Need-write-all-requires Inv-loop μ-loop
-write-all-requires c κs = tt
-
-same-length-2 : tie.Need-same-length-2 Inv-loop μ-loop
-same-length-2 c = search needs
-
-returns-2 : tie.Need-returns-2 Inv-loop μ-loop
-returns-2 c = tt
+slice-aggregate-write-all c = sym (length-take-le _ _ (c .before .before .before .before .before .piece .ensures .put .within))
 
 loop-less : tie.Need-loop-less Inv-loop μ-loop
-loop-less c = less-left (c .before .before .before .before .before .before .before .piece .result) (c .before .before .before .before .before .before .before .piece .ensures .put) (omega arith)
+loop-less c = less-left (c .before .before .before .before .before .before .piece .result) (c .before .before .before .before .before .before .piece .ensures .put) (omega arith)
 
 loop-again : tie.Need-loop-again Inv-loop μ-loop
 loop-again c =
-    let l = c .before .before .before .before .before .before .before .before .before .loop in
-    let same : length (c .before .before .before .before .before .before .before .piece .last .1 .0) ≡ length (l .out) = search needs in
-    (c .before .before .before .before .before .before .before .piece .ensures .put .next, omega (arith, l .inv .1, same), same ∙ l .inv .2)
+    let l = c .before .before .before .before .before .before .before .before .loop in
+    let same : length (c .before .before .before .before .before .before .piece .last .1 .0) ≡ length (l .out) = search needs in
+    (c .before .before .before .before .before .before .piece .ensures .put .next, omega (arith, l .inv .1, same), same ∙ l .inv .2)
 
 pub write-pieces-spec : {M : Type 1} → statement M
 write-pieces-spec =
@@ -60,12 +48,10 @@ write-pieces-spec =
     μ-loop
     loop-holds
     piece-requires
-    same-length
+    (λ c. search needs)
     returns
     slice-reshare-prefix-write-all
     slice-aggregate-write-all
-    write-all-requires
-    same-length-2
-    returns-2
+    (λ c κs. tt)
     loop-less
     loop-again)
