@@ -42,7 +42,10 @@ module _ {t out₀ out : List ℕ} {at : ℕ} {next : State} (l : Filling t out�
       next = rw f (l .good);
       from = omega arith;
       within = omega (arith, l .within);
-      more = λ k. by-test (ltb 0 at) (λ z. omega (arith, ltb-true 0 at z)) (λ z. let n : at ≡ 0 = omega (arith, ltb-false 0 at z) in absurd (omega (arith, l .begun n)));
+      more = λ k.
+          by-test (ltb 0 at)
+          (λ z. omega (arith, ltb-true 0 at z))
+          (λ z. let n : at ≡ 0 = omega (arith, ltb-false 0 at z) in absurd (omega (arith, l .begun n)));
       text = rw (e, f) (l .text);
     };
     whole = λ k. absurd (omega (arith, lengths, l .same));

@@ -5,7 +5,10 @@ use Rattle.lines.proofs.put_header.Tie as tie
 
 returns : tie.Need-returns
 returns c =
-    header-added (c .before .before .before .before .before .before .before .before .before .before .before .before .before .before .args .n) (c .before .before .before .before .before .before .before .before .before .before .put-bytes .ensures) (c .before .before .before .before .before .before .put-decimal .ensures .0) (c .before .before .put-byte .ensures)
+    let number = c .before .before .before .before in
+    let name = number .before .before .before .before in
+    header-added (name .before .before .before .before .before .before .args .n) (name .before .before .put-bytes .ensures) (number .before .before .put-decimal .ensures .0)
+    (c .before .before .put-byte .ensures)
 
 pub put-header-spec : {M : Type 1} → statement M
 put-header-spec =

@@ -13,7 +13,8 @@ use Rattle.lines.proofs.put_numbers.Statement.{statement}
 use Rattle.lines.proofs.put_numbers.Tie as tie
 
 abbrev Inv-loop : tie.InvT-loop
-Inv-loop code out₀ at end₀ i₀ out end i = (i ≤ length code) × (length out ≡ length out₀) × (end ≤ at + 4 * i) × Added (gather spaced (take i code)) at out₀ end out
+Inv-loop code out₀ at end₀ i₀ out end i =
+    (i ≤ length code) × (length out ≡ length out₀) × (end ≤ at + 4 * i) × Added (gather spaced (take i code)) at out₀ end out
 
 abbrev μ-loop : tie.MeasureT-loop
 μ-loop code out₀ at end₀ i₀ out end i = length code - i

@@ -6,9 +6,10 @@ use Rattle.lines.proofs.put_spaced.Tie as tie
 
 returns : tie.Need-returns
 returns c =
-    let x = c .before .before .before .before .before .before .before .before .before .before .args .x in
+    let space = c .before .before .before .before .before in
+    let x = space .before .before .before .before .before .args .x in
     let w = c .before .before .before .before .wide .ensures in
-    let p = spaced-added x (c .before .before .before .before .before .before .before .put-byte .ensures) (rw (w .0) at (c .before .before .put-decimal .ensures .0)) in
+    let p = spaced-added x (space .before .before .put-byte .ensures) (rw (w .0) at (c .before .before .put-decimal .ensures .0)) in
     (p, omega (arith, p .end, byte-length x (omega (arith, w))))
 
 pub put-spaced-spec : {M : Type 1} → statement M

@@ -4,7 +4,9 @@ use Rattle.lines.proofs.put_total.Statement.{statement}
 use Rattle.lines.proofs.put_total.Tie as tie
 
 returns : tie.Need-returns
-returns c = total-added (c .before .before .before .before .before .before .before .before .before .before .args .count) (c .before .before .before .before .before .before .before .put-decimal .ensures .0) (c .before .before .put-bytes .ensures)
+returns c =
+    let number = c .before .before .before .before .before in
+    total-added (number .before .before .before .before .before .args .count) (number .before .before .put-decimal .ensures .0) (c .before .before .put-bytes .ensures)
 
 pub put-total-spec : {M : Type 1} → statement M
 put-total-spec =

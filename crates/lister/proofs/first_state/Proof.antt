@@ -7,13 +7,18 @@ use Rattle.lister.proofs.first_state.Tie as tie
 
 returns : tie.Need-returns
 returns c =
-    first-line (c .before .before .before .before .before .before .before .args .n) _ (c .before .before .before .before .before .before .before .pre) refl (rw (c .before .len .given .1) at (c .before .before .before .before .first .ensures))
+    let m = c .before in
+    let f = m .before .before .before in
+    let s = f .before .before .before in
+    first-line (s .args .n) _ (s .pre) refl (rw (m .len .given .1) at (f .first .ensures))
 
 returns-2 : tie.Need-returns-2
 returns-2 c =
-    let t = c .before in
-    absurd (first-refused (t .before .before .before .before .before .before .args .n) (numberOf (t .enum-told .given .0 .0)) (t .before .before .before .before .before .before .pre) (t .before .before .before .before .before .room .ensures)
-    (rw (t .enum-told .given .1) at (t .before .before .before .first .ensures)))
+    let m = c .before in
+    let f = m .before .before .before in
+    let s = f .before .before .before in
+    absurd (first-refused (s .args .n) (numberOf (m .enum-told .given .0 .0)) (s .pre) (f .before .before .room .ensures)
+    (rw (m .enum-told .given .1) at (f .first .ensures)))
 
 pub first-state-spec : {M : Type 1} → statement M
 first-state-spec =

@@ -6,18 +6,23 @@ use Rattle.lister.proofs.next_state.Statement.{statement}
 use Rattle.lister.proofs.next_state.Tie as tie
 
 returns : tie.Need-returns
-returns c = next-line (c .before .before .before .before .before .before .before .before .pre) _ refl (rw (c .before .len .given .1) at (c .before .before .before .before .successor .ensures))
+returns c =
+    let m = c .before in
+    let f = m .before .before .before in
+    next-line (f .before .before .before .before .pre) _ refl (rw (m .len .given .1) at (f .successor .ensures))
 
 returns-2 : tie.Need-returns-2
 returns-2 c =
-    let t = c .before in
-    next-last (t .before .before .before .before .before .before .before .pre) (c .state-at .result) (c .state-at .ensures) (rw (t .enum-told .given .1) at (t .before .before .before .successor .ensures))
+    let m = c .before in
+    let f = m .before .before .before in
+    next-last (f .before .before .before .before .pre) (c .state-at .result) (c .state-at .ensures) (rw (m .enum-told .given .1) at (f .successor .ensures))
 
 returns-3 : tie.Need-returns-3
 returns-3 c =
-    let t = c .before in
-    absurd (next-refused (t .before .before .before .before .before .before .before .pre) (numberOf (t .enum-told2 .given .0 .0)) (t .before .before .before .before .before .room .ensures)
-    (rw (t .enum-told2 .given .1) at (t .before .before .before .successor .ensures)))
+    let m = c .before in
+    let f = m .before .before .before in
+    absurd (next-refused (f .before .before .before .before .pre) (numberOf (m .enum-told2 .given .0 .0)) (f .before .before .room .ensures)
+    (rw (m .enum-told2 .given .1) at (f .successor .ensures)))
 
 pub next-state-spec : {M : Type 1} → statement M
 next-state-spec =

@@ -1,6 +1,6 @@
 use denote.Ref.{now}
-use mathlib.Core.Path.{_≡_, refl, sym}
-use Prim.Native.Nat.{_-_, _≤_, _<_}
+use mathlib.Core.Path.{_≡_, refl}
+use Prim.Native.Nat.{_-_}
 use native.Mathlib.Omega.{arith}
 use lib.ListN.{length}
 use borrow.Author.Needs.{needs}
@@ -26,26 +26,24 @@ sub-loop c = c .loop .inv .within
 put-next-requires : tie.Need-put-next-requires Inv-loop μ-loop
 put-next-requires c κs = (c .before .before .loop .inv .good, omega (arith, c .before .before .loop .inv .within))
 
-same-length : tie.Need-same-length Inv-loop μ-loop
-same-length c = search needs
+-- after the call the buffer is as long as before
+same-room : (c : tie.After-put-next Inv-loop μ-loop) → length (c .put-next .last .1 .0) ≡ length (c .before .before .before .loop .out)
+same-room c = search needs
 
 returns : tie.Need-returns Inv-loop μ-loop
-returns c = filling-done (c .before .before .before .before .before .before .before .loop .inv) _ (c .before .before .before .before .put-next .ensures) (omega arith)
+returns c =
+    let p = c .before .before .before .before in
+    filling-done (p .before .before .before .loop .inv) _ (p .put-next .ensures) (omega arith)
 
 loop-less : tie.Need-loop-less Inv-loop μ-loop
 loop-less c =
-    let p = c .before .before .before .before .before .put-next .ensures in
-    let same : length (c .before .before .before .before .before .put-next .last .1 .0) ≡ length (c .before .before .before .before .before .before .before .before .loop .out) = search needs in
-    omega (arith, p .from, p .within, same)
+    let p = c .before .before .before .before .before in
+    omega (arith, p .put-next .ensures .from, p .put-next .ensures .within, same-room p)
 
 loop-again : tie.Need-loop-again Inv-loop μ-loop
 loop-again c =
-    let p = c .before .before .before .before .before .put-next .ensures in
-    let same : length (c .before .before .before .before .before .put-next .last .1 .0) ≡ length (c .before .before .before .before .before .before .before .before .loop .out) = search needs in
-    filling-more (c .before .before .before .before .before .before .before .before .loop .inv) _ p same (omega (arith, p .from))
-
-same-length-2 : tie.Need-same-length-2 Inv-loop μ-loop
-same-length-2 c = search needs
+    let p = c .before .before .before .before .before in
+    filling-more (p .before .before .before .loop .inv) _ (p .put-next .ensures) (same-room p) (omega (arith, p .put-next .ensures .from))
 
 returns-2 : tie.Need-returns-2 Inv-loop μ-loop
 returns-2 c = filling-full (c .before .loop .inv) _ refl refl (omega arith)
@@ -59,9 +57,9 @@ piece-spec =
     loop-holds
     sub-loop
     put-next-requires
-    same-length
+    (λ c. search needs)
     returns
     loop-less
     loop-again
-    same-length-2
+    (λ c. search needs)
     returns-2)

@@ -23,7 +23,9 @@ piece-requires : tie.Need-piece-requires Inv-loop μ-loop
 piece-requires c κs = (c .before .loop .inv .0, c .before .loop .inv .1)
 
 returns : tie.Need-returns Inv-loop μ-loop
-returns c = none-left (remaining (c .before .before .before .before .before .before .loop .state)) (c .before .before .before .before .piece .result) (c .before .before .before .before .piece .ensures .put) (omega arith)
+returns c =
+    let p = c .before .before .before .before in
+    none-left (remaining (p .before .before .loop .state)) (p .piece .result) (p .piece .ensures .put) (omega arith)
 
 slice-reshare-prefix-write-all : tie.Need-slice-reshare-prefix-write-all Inv-loop μ-loop
 slice-reshare-prefix-write-all c = c .before .before .before .before .piece .ensures .put .within
@@ -32,13 +34,14 @@ slice-aggregate-write-all : tie.Need-slice-aggregate-write-all Inv-loop μ-loop
 slice-aggregate-write-all c = sym (length-take-le _ _ (c .before .before .before .before .before .piece .ensures .put .within))
 
 loop-less : tie.Need-loop-less Inv-loop μ-loop
-loop-less c = less-left (c .before .before .before .before .before .before .piece .result) (c .before .before .before .before .before .before .piece .ensures .put) (omega arith)
+loop-less c = let p = c .before .before .before .before .before .before in less-left (p .piece .result) (p .piece .ensures .put) (omega arith)
 
 loop-again : tie.Need-loop-again Inv-loop μ-loop
 loop-again c =
-    let l = c .before .before .before .before .before .before .before .before .loop in
-    let same : length (c .before .before .before .before .before .before .piece .last .1 .0) ≡ length (l .out) = search needs in
-    (c .before .before .before .before .before .before .piece .ensures .put .next, omega (arith, l .inv .1, same), same ∙ l .inv .2)
+    let p = c .before .before .before .before .before .before in
+    let l = p .before .before .loop in
+    let same : length (p .piece .last .1 .0) ≡ length (l .out) = search needs in
+    (p .piece .ensures .put .next, omega (arith, l .inv .1, same), same ∙ l .inv .2)
 
 pub write-pieces-spec : {M : Type 1} → statement M
 write-pieces-spec =
