@@ -1,19 +1,18 @@
 -- A code of the list of n points, the codes from it on, and what the engine answers for it.
-use mathlib.Core.Path.{_≡_, refl, ap, sym, _∙_}
-use mathlib.Core.Bool.{true, false, cond}
-use mathlib.Core.List.{List, [], _∷_, _++_, append-assoc}
-use mathlib.Core.Option.{Option, none, some}
-use Prim.Native.Nat.{ℕ, suc, _+_, _≤_, _<_}
+use mathlib.Core.Path.{_≡_, refl, ap, sym}
+use mathlib.Core.Bool.{true}
+use mathlib.Core.List.{List, [], _∷_, _++_}
+use Prim.Native.Nat.{ℕ, _+_, _≤_}
 use native.Mathlib.Omega.{arith}
-use lib.Dec.{leb, ltb}
+use lib.Dec.{leb}
 use lib.ListN.{length, take, drop}
 use lib.Seq.{take-at}
-use borrow.Author.Tests.{le-ltb, le-leb, leb-true}
+use borrow.Author.Tests.{le-ltb, le-leb}
 use Rattle.lists.specs.Select.{first}
 use Rattle.lists.proofs.Tests.{_∈_, by-test}
 use Rattle.lists.proofs.Members.{lawful-decides, in-head, in-list, in-middle, nodup-apart}
 use Rattle.lists.proofs.Places.{from-split, next-split}
-use Rattle.patterns.specs.System.{System, weight, canonical, codes, compareSystem}
+use Rattle.patterns.specs.System.{System, weight, canonical, codes}
 use Rattle.patterns.specs.Written.{written}
 use Rattle.patterns.specs.Reading.{done, accepted}
 use Rattle.patterns.specs.Entry.{length-is, last, refused, Replied, listed, firstOf, successorOf}

@@ -1,8 +1,8 @@
 -- There are few codes: no more than there are tables.
-use mathlib.Core.Path.{_≡_, refl, ap, ap₂, sym, _∙_}
-use mathlib.Core.Bool.{Bool, true}
+use mathlib.Core.Path.{_≡_, ap, ap₂, sym, _∙_}
+use mathlib.Core.Bool.{true}
 use mathlib.Core.List.{List, [], _∷_, map}
-use Prim.Native.Nat.{ℕ, zero, suc, _+_, _*_, _^_, _≤_, _<_}
+use Prim.Native.Nat.{ℕ, zero, suc, _+_, _*_, _^_, _≤_}
 use native.Mathlib.Nat.{add-comm, le-trans, suc-mul, pow-zero, pow-succ', pow-le-pow-left, pow-le-pow-right}
 use native.Mathlib.Omega.{arith}
 use lib.Dec.{ltb}
@@ -13,8 +13,8 @@ use Rattle.lists.proofs.Tests.{_∈_, each-head, each-tail}
 use Rattle.lists.proofs.Members.{in-head, in-moved, in-range, in-map, of-map, in-gather, nodup-map}
 use Rattle.lists.proofs.Places.{range-length}
 use Rattle.lists.proofs.Pigeon.{inside-length}
-use Rattle.patterns.specs.System.{System, weight, codes}
-use Rattle.patterns.specs.Table.{isTable, systemOfTable}
+use Rattle.patterns.specs.System.{System, codes}
+use Rattle.patterns.specs.Table.{systemOfTable}
 use Rattle.patterns.specs.MapOf.{mapOf}
 use Rattle.systems.proofs.Codes.{codes-sound, codes-different}
 use Rattle.maps.proofs.MapOf.{length-mapOf, mapOf-table}

@@ -1,15 +1,13 @@
 -- What a step puts is a beginning of the text that the state stands for.
 use mathlib.Core.Path.{_≡_, refl, ap, ap₂, sym, _∙_}
-use mathlib.Core.Bool.{true, cond}
+use mathlib.Core.Bool.{true}
 use mathlib.Core.List.{List, [], _∷_, _++_, append-assoc}
 use Prim.Native.Nat.{ℕ, suc, _+_, _≤_, _<_}
 use native.Mathlib.Omega.{arith}
 use native.Mathlib.Numerals.{add-one}
 use lib.ListN.{length, take, drop}
 use borrow.Author.Tests.{lt-ltb}
-use Rattle.lists.specs.Select.{gather}
-use Rattle.patterns.specs.System.{weight}
-use Rattle.patterns.specs.Written.{numbers, writeNumber, bytes, written}
+use Rattle.patterns.specs.Written.{numbers, bytes, written}
 use Rattle.patterns.specs.ListingText.{codeLine, linesAfter}
 use Rattle.systems.proofs.Bounds.{allBelow, below-head, below-tail}
 use Rattle.systems.proofs.Codes.{codes-sound}

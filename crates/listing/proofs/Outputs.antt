@@ -1,7 +1,6 @@
 -- The output for every input: the listing of the count that it says, or `bad count`. Four bytes tell which.
 use mathlib.Core.Path.{_≡_, refl, ap, sym, _∙_}
-use mathlib.Core.Bool.{true}
-use mathlib.Core.List.{List, [], _∷_, _++_, append-cancel-right}
+use mathlib.Core.List.{List, [], _∷_, append-cancel-right}
 use Prim.Native.Nat.{ℕ, _≤_, _<_, compare}
 use native.Mathlib.Omega.{arith}
 use lib.Dec.{leb}

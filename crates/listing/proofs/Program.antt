@@ -13,7 +13,6 @@ use Rattle.lists.proofs.Tests.{_∈_}
 use Rattle.lists.proofs.Members.{in-head}
 use Rattle.patterns.specs.ListingText.{counts, textFor, outputOf}
 use Rattle.lister.specs.declared.State.{State}
-use Rattle.lister.specs.declared.Step.{Step}
 use Rattle.lister.specs.declared.Phase.the-variants.{Bad, Header, Done}
 use Rattle.lister.specs.Remaining.{remaining}
 use Rattle.lister.specs.Good.{Good}

@@ -1,11 +1,11 @@
 -- Texts put one after another are put as one.
-use mathlib.Core.Path.{_≡_, refl, ap, sym, _∙_}
+use mathlib.Core.Path.{refl, ap, sym, _∙_}
 use mathlib.Core.List.{List, [], _∷_, _++_, append-assoc, append-nil}
-use Prim.Native.Nat.{ℕ, suc, _+_, _≤_, _<_}
+use Prim.Native.Nat.{ℕ, _+_, _≤_, _<_}
 use native.Mathlib.Omega.{arith}
 use native.Mathlib.Numerals.{add-one}
 use lib.ListN.{length, getD, take, set, length-append, length-take}
-use lib.Seq.{length-take-le, take-suc, take-suc-set}
+use lib.Seq.{take-suc, take-suc-set}
 use Rattle.lists.specs.Select.{gather}
 use Rattle.lists.proofs.Members.{gather-append}
 use Rattle.text.specs.Added.{Added}
