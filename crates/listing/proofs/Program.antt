@@ -18,7 +18,7 @@ use Rattle.lister.specs.Remaining.{remaining}
 use Rattle.lister.specs.Good.{Good}
 use Rattle.lister.specs.Put.{Put}
 use Rattle.listing.specs.Pieces.{Pieces, ended, handed}
-use Rattle.listing.proofs.Filling.{empty-piece}
+use Rattle.listing.proofs.FilledPieces.{empty-piece}
 use Rattle.listing.proofs.Outputs.{output-counts, counts-small, first-four}
 use Rattle.listing.proofs.start.Reads as start
 use Rattle.listing.proofs.start.Kinds as start-kinds

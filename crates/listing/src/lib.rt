@@ -21,13 +21,13 @@ ghost use Rattle.listing.specs.Pieces.{Filled, FirstPiece};
 const ROOM: usize = 4096;
 
 // What the input says: a count of points, or nothing that the program takes.
-pub enum Parsed {
+enum Parsed {
     Count(usize),
     Bad,
 }
 
 // Reads a decimal count from 0 to 14 without leading zeros, one newline, and nothing after it.
-pub fn parse(input: &[u8]) -> Parsed
+fn parse(input: &[u8]) -> Parsed
     ensures { λ r. ⌜ Reads (now (input .entry)) r ⌝ }
 {
     if input.len() == 2 {
@@ -67,7 +67,7 @@ fn wide(x: u8) -> usize
 }
 
 // The state before anything is written.
-pub fn start(input: &[u8]) -> State
+fn start(input: &[u8]) -> State
     ensures { λ r. ⌜ Good r × (remaining r ≡ outputOf (now (input .entry))) ⌝ }
 {
     match parse(input) {
@@ -77,7 +77,7 @@ pub fn start(input: &[u8]) -> State
 }
 
 // Fills `out` with as many of the lines to come as have room.
-pub fn piece(state: State, out: &mut [u8]) -> Step
+fn piece(state: State, out: &mut [u8]) -> Step
     requires { ⌜ Good state × (4096 ≤ length (now out)) ⌝ }
     ensures { λ r. ⌜ Filled (remaining state) (now (out .entry)) r (now (out .exit)) ⌝ }
 {

@@ -5,7 +5,7 @@ use native.Mathlib.Omega.{arith}
 use lib.ListN.{length}
 use borrow.Author.Needs.{needs}
 use Rattle.lister.specs.Remaining.{remaining}
-use Rattle.listing.proofs.Filling.{Filling, filling-starts, filling-more, filling-done, filling-full}
+use Rattle.listing.proofs.FilledPieces.{Filling, filling-starts, filling-more, filling-done, filling-full}
 use Rattle.listing.proofs.piece.Statement.{statement}
 use Rattle.listing.proofs.piece.Tie as tie
 
