@@ -77,7 +77,7 @@ pub fn call(entry: usize, count: usize, a: List, b: List, room: usize) -> Writte
     let n = numbers::within(a.len, &left);
     let right = b.bytes;
     let m = numbers::within(b.len, &right);
-    let mut bytes = case_text::blank();
+    let mut bytes = lists::blank();
     let room = numbers::within(room, &bytes);
     let found = answer(entry, count, &left[0..n], &right[0..m], &mut bytes[0..room]);
     Written {
@@ -106,7 +106,7 @@ pub fn result(written: Written) -> List {
 }
 
 pub fn first(n: usize) -> List {
-    let none = case_text::empty();
+    let none = lists::empty();
     result(call(FIRST, n, none, none, WIDE))
 }
 

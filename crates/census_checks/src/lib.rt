@@ -205,11 +205,11 @@ fn holds(entry: usize, places: usize, table: List, wanted: Columns) -> bool {
 fn run_case(text: &[u8], place: usize) -> Turn {
     let entry = numbers::token(text, place);
     let room = numbers::token(text, entry.next);
-    let table = case_text::read(text, room.next);
-    let second = case_text::read(text, table.next);
+    let table = lists::read(text, room.next);
+    let second = lists::read(text, table.next);
     let kind = numbers::token(text, second.next);
     let value = numbers::token(text, kind.next);
-    let output = case_text::read(text, value.next);
+    let output = lists::read(text, value.next);
     let wanted = expected(kind.value, value.value, output);
     Turn {
         known: entry.value == CENSUS,

@@ -36,7 +36,7 @@ fn is_answer(found: Written, kind: usize, value: usize, expected: List) -> bool 
 fn compare(found: Written, known: bool, text: &[u8], place: usize) -> Turn {
     let kind = numbers::token(text, place);
     let value = numbers::token(text, kind.next);
-    let expected = case_text::read(text, value.next);
+    let expected = lists::read(text, value.next);
     Turn {
         known,
         holds: is_answer(found, kind.value, value.value, expected),
@@ -47,8 +47,8 @@ fn compare(found: Written, known: bool, text: &[u8], place: usize) -> Turn {
 fn run_case(text: &[u8], place: usize) -> Turn {
     let entry = numbers::token(text, place);
     let room = numbers::token(text, entry.next);
-    let a = case_text::read(text, room.next);
-    let b = case_text::read(text, a.next);
+    let a = lists::read(text, room.next);
+    let b = lists::read(text, a.next);
     let found = calls::call(entry.value, a.len, a, b, room.value);
     compare(found, entry.value != CENSUS, text, b.next)
 }

@@ -23,7 +23,7 @@ fn equal_codes(f: List, g: List) -> bool {
     if code.len == 0 {
         return false;
     }
-    case_text::same(code, calls::code_of_map(g))
+    lists::same(code, calls::code_of_map(g))
 }
 
 // Whether every arrow of f is an arrow of g under r: f and then r leads where r and then g lead.
@@ -83,7 +83,7 @@ fn is_isomorphic(f: List, g: List) -> bool {
 fn is_coded_again(f: List) -> bool {
     let code = calls::code_of_map(f);
     let table = calls::map_of_code(code);
-    if !case_text::same(code, calls::code_of_map(table)) {
+    if !lists::same(code, calls::code_of_map(table)) {
         return false;
     }
     is_isomorphic(f, table)
@@ -109,8 +109,8 @@ fn run_pair(runs: Runs, f: List, g: List) -> Runs {
 
 // The runs with the pair that begins at `place`.
 fn run_line(runs: Runs, text: &[u8], place: usize) -> Runs {
-    let f = case_text::read(text, place);
-    let g = case_text::read(text, f.next);
+    let f = lists::read(text, place);
+    let g = lists::read(text, f.next);
     run_pair(runs, f, g)
 }
 

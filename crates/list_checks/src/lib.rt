@@ -6,7 +6,7 @@ pub mod totals;
 use case_text::scores;
 use case_text::scores::Score;
 
-// The totals, the connected ones, and the listings of 0 to 8 points.
+// The totals, the connected ones, the listings of 0 to 8 points, and inputs that are no count.
 pub fn run() {
     let found = totals::totals();
     scores::report(
@@ -24,4 +24,5 @@ pub fn run() {
         },
     );
     scores::report(b"plain listings", programs::listings());
+    scores::report(b"bad counts", programs::bad_counts());
 }

@@ -2,35 +2,11 @@
 use case_text::numbers;
 use case_text::scores;
 use case_text::scores::Score;
-use listing::Parsed;
-ghost use mathlib.Core.Path.{_≡_};
-ghost use lib.ListN.{length};
-
-// Room for every code.
-fn room() -> [u8; 2000]
-    ensures { λ r. ⌜ 2000 ≡ length r ⌝ }
-{
-    [0; 2000]
-}
-
-fn list_into(n: usize, out: &mut [u8]) -> usize {
-    let mut code = room();
-    let mut next = room();
-    listing::list(n, &mut code, &mut next, out)
-}
-
-// Puts what the program writes for an input into `out` and answers its length.
-fn text_into(input: &[u8], out: &mut [u8]) -> usize {
-    let Parsed::Count(n) = listing::parse(input) else {
-        return listing::text::put_bytes(b"bad count\n", out, 0);
-    };
-    list_into(n, out)
-}
 
 // Whether what the program writes for an input is the text.
 fn is_text(input: &[u8], text: &[u8]) -> bool {
     let mut out = io::large_buffer();
-    let end = text_into(input, &mut out);
+    let end = listing::text_into(input, &mut out);
     let len = numbers::within(end, &out);
     check::same(&out[0..len], text)
 }

@@ -1,1 +1,5 @@
-pub mod Lines
+-- Good inputs by their bytes, the output for every input, a buffer filled line by line, and the theorem about the program.
+pub mod Inputs
+pub mod Outputs
+pub mod FilledPieces
+pub mod Program

@@ -13,3 +13,4 @@ pub mod CensusExamples
 pub mod ReplyExamples
 pub mod ComponentExamples
 pub mod ListExamples
+pub mod ListingExamples

@@ -13,4 +13,6 @@ pub mod Replies
 pub mod Entry
 pub mod Calls
 pub mod SignedReplies
+pub mod Decimal
+pub mod ListingText
 pub mod Sheet

@@ -64,11 +64,11 @@ fn holds(code: List, position: usize, kind: usize, value: usize, part: List) -> 
 }
 
 fn run_case(text: &[u8], place: usize) -> Turn {
-    let code = case_text::read(text, place);
+    let code = lists::read(text, place);
     let position = numbers::token(text, code.next);
     let kind = numbers::token(text, position.next);
     let value = numbers::token(text, kind.next);
-    let part = case_text::read(text, value.next);
+    let part = lists::read(text, value.next);
     Turn {
         holds: holds(code, position.value, kind.value, value.value, part),
         next: part.next,

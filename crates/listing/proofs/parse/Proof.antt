@@ -2,8 +2,8 @@ use denote.Ref.{now}
 use Prim.Native.Nat.{_-_}
 use native.Mathlib.Omega.{arith}
 use lib.ListN.{getD}
-use Rattle.listing.specs.Count.{Reads, good, bad}
-use Rattle.listing.proofs.Lines.{OneDigit, TwoDigits, one-digit, two-digits, no-line}
+use Rattle.listing.specs.Count.{good, bad}
+use Rattle.listing.proofs.Inputs.{one-digit, two-digits, no-line}
 use borrow.Author.Needs.{needs}
 use Rattle.listing.proofs.parse.Statement.{statement}
 use Rattle.listing.proofs.parse.Tie as tie
