@@ -1,8 +1,8 @@
 // What an entry answered: one kind and one number for the replies of all entries.
 use patterns::Isomorphism;
-use patterns::Successor;
 use patterns::Refusal;
 use patterns::Reply;
+use patterns::Successor;
 
 pub const LENGTH: usize = 0;
 

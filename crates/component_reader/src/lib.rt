@@ -1,11 +1,9 @@
 // The component reader [document 01, "Refusing", last paragraph]: it shows the bytes of one component at a time, as a part of the code that it was
 // given. A reader is a code and a position. The functions over it are thin: what they answer is found by functions on a slice and a number.
 use acceptance::accept_into;
-use patterns::Refusal;
 use patterns::Stretch;
 use patterns::points_room;
 use reading::Accepted;
-use trees::count;
 use writing::stretch_in;
 ghost use denote.Ref.{now};
 ghost use mathlib.Core.Path.{_≡_};

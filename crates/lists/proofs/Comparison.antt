@@ -7,7 +7,7 @@ use native.Mathlib.Omega.{arith}
 use lib.Dec.{isLe, isEq, leb}
 use borrow.Author.Tests.{lt-leb, leb-true, leb-false, eq-eqb, eqb-true, eqb-false}
 use Rattle.lists.specs.Order.{then, atMost, same}
-use Rattle.lists.proofs.Tests.{by-test, no-both, either}
+use Rattle.lists.proofs.Tests.{by-test, no-both, either, is-false}
 
 -- the answer with the two sides exchanged
 abbrev pub opposite : Ordering → Ordering
@@ -146,6 +146,9 @@ module _ {A : Type 0} {c : A → A → Ordering} (w : Lawful c) where
 
   pub same-of-path : {x y : A} → x ≡ y → same c x y ≡ true
   same-of-path e = ap isEq (eq-of-path e)
+
+  pub same-of-apart : (x y : A) → (x ≡ y → ⊥) → same c x y ≡ false
+  same-of-apart x y h = is-false (same c x y) (λ t. h (same-true x y t))
 
 -- Numbers.
 pub compare-self : (a : ℕ) → compare a a ≡ Ordering·eq
