@@ -29,7 +29,7 @@ use Rattle.tree_reading.specs.Walking.{walkedAll, readComponent}
 use Rattle.reading.specs.Shape.{MemoryRoom, ReadInto}
 use Rattle.form_theory.proofs.Results.{Good, good-weaken, good-done, or-false, mapped-none, mapped-more}
 use Rattle.form_theory.proofs.ReadFrom.{TreesOf, trees-good}
-use Rattle.reading.proofs.Narrowing.{flat-small}
+use Rattle.tree_reading.proofs.Narrowing.{flat-small}
 
 -- m + 1 components: one, and then m
 pub components-next : (m left : ℕ) (s : List ℕ)

@@ -2,16 +2,16 @@
 // Whether the system is canonical is not asked here.
 use patterns::Refusal;
 use tree_reading::Read;
+use tree_reading::narrow;
 use tree_reading::read_component;
 use written::Cut;
 use written::cut_into;
 ghost use denote.Ref.{now};
 ghost use mathlib.Core.Path.{_≡_};
 ghost use mathlib.Core.List.{List};
-ghost use Prim.Native.Nat.{ℕ, _+_, _<_, _≤_};
-ghost use lib.ListN.{length, take, drop, getD};
+ghost use Prim.Native.Nat.{ℕ};
+ghost use lib.ListN.{length, take, drop};
 ghost use Rattle.patterns.specs.Reading.{readComponents};
-ghost use Rattle.written.specs.Putting.{placed};
 ghost use Rattle.reading.specs.Shape.{shape, codeShape, keptNumbers, MemoryRoom, ReadInto, AcceptedInto};
 
 // How many numbers of a code are kept: all that a code of 200 points has (n, m, one for each component and each point), and one more, which shows
@@ -22,18 +22,6 @@ const KEPT: usize = 403;
 pub enum Accepted {
     System(usize, usize),
     Refused(Refusal),
-}
-
-// Writes the numbers `s`, each of them a byte, into `out` from place `at` on.
-pub fn narrow(s: &[u16], out: &mut [u8], at: usize)
-    requires { ⌜ (at + length (now s) ≤ length (now out)) × ((i : ℕ) → getD (now s) i 0 < 256) ⌝ }
-    ensures { λ r. ⌜ now (out .exit) ≡ placed at (now (s .entry)) (now (out .entry)) ⌝ }
-{
-    let mut i = 0;
-    while i < s.len() {
-        out[at + i] = s[i] as u8;
-        i += 1;
-    }
 }
 
 // `m` components of `left` points in all, from place `at` on. The points of each go into `sizes`, and the components into `trees`.

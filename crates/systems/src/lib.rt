@@ -49,18 +49,18 @@ pub fn canonical(sizes: &[u8], trees: &[u8]) -> bool
     let mut at = 0;
     let mut i = 0;
     while i < sizes.len() {
-        let end = at + sizes[i] as usize;
-        if !valid_component(&trees[at..end]) {
+        let next = at + sizes[i] as usize;
+        if !valid_component(&trees[at..next]) {
             return false;
         }
-        if !follows(&trees[last..at], &trees[at..end]) {
+        if !follows(&trees[last..at], &trees[at..next]) {
             return false;
         }
         last = at;
-        at = end;
+        at = next;
         i += 1;
     }
-    true
+    return true;
 }
 
 // The first system: as many fixed points as the slices have places.

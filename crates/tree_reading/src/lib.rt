@@ -1,10 +1,12 @@
-// Reading trees and components of a written code [document 01, "Refusing"]: their shape, left to right, the first fault deciding.
+// Reading trees and components of a written code [document 01, "Refusing"]: their shape, left to right, the first fault deciding. The
+// numbers of a component, which are bytes then, go into memory as they are.
 use patterns::Refusal;
 ghost use denote.Ref.{now};
 ghost use mathlib.Core.Path.{_≡_};
-ghost use Prim.Native.Nat.{ℕ, _+_, _<_};
-ghost use lib.ListN.{drop};
+ghost use Prim.Native.Nat.{ℕ, _+_, _<_, _≤_};
+ghost use lib.ListN.{length, drop, getD};
 ghost use Rattle.patterns.specs.Reading.{readTree, readBranches, readTrees};
+ghost use Rattle.written.specs.Putting.{placed};
 ghost use Rattle.tree_reading.specs.Walking.{walked, walkedAll, readComponent};
 
 // The place after what was read, or the cause of a refusal.
@@ -81,4 +83,16 @@ pub fn read_component(s: &[u16], at: usize, left: usize) -> Read
         return Read::Refused(Refusal::Sizes);
     }
     read_trees(s, at + 1, k, left)
+}
+
+// Writes the numbers `s`, each of them a byte, into `out` from place `at` on.
+pub fn narrow(s: &[u16], out: &mut [u8], at: usize)
+    requires { ⌜ (at + length (now s) ≤ length (now out)) × ((i : ℕ) → getD (now s) i 0 < 256) ⌝ }
+    ensures { λ r. ⌜ now (out .exit) ≡ placed at (now (s .entry)) (now (out .entry)) ⌝ }
+{
+    let mut i = 0;
+    while i < s.len() {
+        out[at + i] = s[i] as u8;
+        i += 1;
+    }
 }

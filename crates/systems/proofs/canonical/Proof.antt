@@ -56,11 +56,11 @@ valid c =
 loop-holds : tie.Need-loop-holds Inv-loop μ-loop
 loop-holds c = checking-start (c .before .before .pre)
 
-cast-end : tie.Need-cast-end Inv-loop μ-loop
-cast-end c = omega (arith, c .shared-slice-known3 .given ((turn c) .loop .i))
+cast-next : tie.Need-cast-next Inv-loop μ-loop
+cast-next c = omega (arith, c .shared-slice-known3 .given ((turn c) .loop .i))
 
-add-end : tie.Need-add-end Inv-loop μ-loop
-add-end c = omega (arith, within c)
+add-next : tie.Need-add-next Inv-loop μ-loop
+add-next c = omega (arith, within c)
 
 sub-valid-component : tie.Need-sub-valid-component Inv-loop μ-loop
 sub-valid-component c = omega (arith, within c)
@@ -134,8 +134,8 @@ canonical-spec =
     μ-loop
     loop-holds
     (λ c. search needs)
-    cast-end
-    add-end
+    cast-next
+    add-next
     sub-valid-component
     part-valid-component-start
     part-valid-component-end

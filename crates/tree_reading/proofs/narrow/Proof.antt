@@ -6,9 +6,9 @@ use borrow.Author.Needs.{needs}
 use lib.ListN.{length, take, getD, set, length-set}
 use lib.Seq.{take-all}
 use Rattle.written.specs.Putting.{placed}
-use Rattle.reading.proofs.Narrowing.{narrow-start, narrow-next}
-use Rattle.reading.proofs.narrow.Statement.{statement}
-use Rattle.reading.proofs.narrow.Tie as tie
+use Rattle.tree_reading.proofs.Narrowing.{narrow-start, narrow-next}
+use Rattle.tree_reading.proofs.narrow.Statement.{statement}
+use Rattle.tree_reading.proofs.narrow.Tie as tie
 
 abbrev Inv-loop : tie.InvT-loop
 Inv-loop s out₀ at i₀ out i = (i ≤ length s) × (length out ≡ length out₀) × (out ≡ placed at (take i s) out₀)
