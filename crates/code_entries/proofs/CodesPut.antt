@@ -20,9 +20,9 @@ use Rattle.patterns.specs.Replies.{Answer, last, refused, numberOf}
 use Rattle.patterns.specs.Entry.{gives, listed, Replied, firstOf, successorOf}
 use Rattle.memory.specs.Memory.{Holds}
 use Rattle.memory.specs.Memory.{HeldSystem}
-use Rattle.systems.specs.declared.Stepped.{Stepped}
-use Rattle.systems.specs.declared.Stepped.the-variants.{Next, Last}
-use Rattle.systems.specs.Held.{HeldStep, SteppedTo}
+use Rattle.stepping.specs.declared.Stepped.{Stepped}
+use Rattle.stepping.specs.declared.Stepped.the-variants.{Next, Last}
+use Rattle.stepping.specs.HeldSteps.{HeldStep, SteppedTo}
 use Rattle.system_theory.specs.Step.{step}
 use Rattle.memory.proofs.Parts.{held-count, held-points, held-unique}
 use Rattle.system_theory.proofs.Codes.{codes-sound}

@@ -1,6 +1,6 @@
 // The listing program one line at a time: the state stands for the text that is still to come.
 use engine::Successor;
-use written::Reply;
+use patterns::Reply;
 ghost use denote.Ref.{now};
 ghost use mathlib.Core.Path.{_≡_};
 ghost use Prim.Native.Nat.{_+_, _≤_};

@@ -2,6 +2,3 @@
 pub mod Checking
 pub mod Filling
 pub mod Growing
-pub mod Advancing
-pub mod Scanning
-pub mod Stepping

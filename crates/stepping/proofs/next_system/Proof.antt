@@ -1,8 +1,8 @@
 use native.Mathlib.Omega.{arith}
-use Rattle.systems.proofs.Stepping.{step-count, step-held, step-room, step-same, step-ends, step-cycles}
+use Rattle.stepping.proofs.Stepping.{step-count, step-held, step-room, step-same, step-ends, step-cycles}
 use borrow.Author.Needs.{needs}
-use Rattle.systems.proofs.next_system.Statement.{statement}
-use Rattle.systems.proofs.next_system.Tie as tie
+use Rattle.stepping.proofs.next_system.Statement.{statement}
+use Rattle.stepping.proofs.next_system.Tie as tie
 
 -- The places at which something is learnt: the start, the search for a component with a successor, the next size list. Later places lead down to them.
 abbrev start : tie.After-slice-known5 → tie.Start
