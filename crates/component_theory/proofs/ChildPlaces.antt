@@ -199,7 +199,7 @@ not-leading zero q b x y s e h = omega arith
 not-leading (suc j) q [] x y s e h = point-not-merge x y (head-eq-of-cons-eq e)
 not-leading (suc j) q (z ∷ b) x y s e h = not-leading j q b x y s (tail-eq-of-cons-eq e) (omega arith)
 
--- K2: behind the leftmost tree of more than one point there is no child
+-- behind the leftmost tree of more than one point there is no child
 pub childAt-late : (c b : Component) (x y : Tree) (s : Component) (n i : ℕ) → c ≡ b ++ (merge x y ∷ s) → length c ≡ suc n → length b < i → i < n
     → (childAt c i ≡ []) × (childAt c (n + i) ≡ [])
 childAt-late c b x y s n i e l h k =
@@ -226,7 +226,7 @@ points-pair (suc (suc h)) zero q l = (replicate h point ++ q, refl)
 points-pair (suc (suc h)) (suc i) q l = let s = points-pair (suc h) i q (omega arith) in (s .0, ap (λ k. point ∷ k) (s .1))
 
 module _ (c : Component) (v : validComponent c ≡ true) (n : ℕ) (l : length c ≡ suc n) where
-  -- K3: a right merge of two points is their left merge
+  -- a right merge of two points is their left merge
   pub childAt-points : (h i : ℕ) (q : Component) → c ≡ replicate h point ++ q → suc i < h → childAt c (n + i) ≡ []
   childAt-points h i q e k =
       let s = points-pair h i q k in

@@ -64,7 +64,7 @@ in-candidates d h =
     (λ e. rw e (in-append-left (rightMerges (P ++ (t ∷ u ∷ r))) (in-list (sym (left-by (P ++ (t ∷ u ∷ r)))) (in-merges merge P t u r))))
     (λ e. rw e (in-append-right (leftMerges (P ++ (u ∷ t ∷ r))) (in-list (sym (right-by (P ++ (u ∷ t ∷ r)))) (in-merges merge-right P u t r))))))
 
--- Lemma 12 (K1): a valid component that has a parent is a child of its parent
+-- Lemma 12: a valid component that has a parent is a child of its parent
 pub child-candidate : (d : Component) → validComponent d ≡ true → hasParent d ≡ true → d ∈ children (parent d)
 unfolding children
 child-candidate d v h =

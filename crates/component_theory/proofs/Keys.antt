@@ -1,4 +1,4 @@
--- Which candidates of a component are its children (K2, K3), and the key of a component: the place where it first stands among the candidates
+-- Which candidates of a component are its children, and the key of a component: the place where it first stands among the candidates
 -- of its parent.
 use mathlib.Core.Path.{_≡_, refl, ap, sym, _∙_}
 use mathlib.Core.Bool.{Bool, true, false, _&&_, true≢false}
@@ -65,7 +65,7 @@ parent-before (merge v z ∷ a) x y r s e =
     (λ h. merge-not-left v z (sym (head-eq-of-cons-eq (rw h at e))))
     (λ h. merge-not-right v z (sym (head-eq-of-cons-eq (rw h at e))))
 
--- K2: a left merge is a child only if all trees before it are points and the two are in order
+-- a left merge is a child only if all trees before it are points and the two are in order
 pub left-place : (a : Component) (t u : Tree) (r : Component) → isChild (a ++ (t ∷ u ∷ r)) (a ++ (merge t u ∷ r)) ≡ true
     → (a ≡ replicate (length a) point) × (atMost compareTree t u ≡ true)
 left-place a t u r e =
@@ -73,7 +73,7 @@ left-place a t u r e =
     let q = parent-before a t u r (t ∷ u ∷ r) p in
     (q .0, kept-ordered t u r (q .1))
 
--- K2: a right merge too
+-- and so is a right merge
 pub right-place : (a : Component) (t u : Tree) (r : Component) → isChild (a ++ (t ∷ u ∷ r)) (a ++ (merge u t ∷ r)) ≡ true
     → (a ≡ replicate (length a) point) × (atMost compareTree t u ≡ true)
 right-place a t u r e =
@@ -122,7 +122,7 @@ module _ (c : Component) (i : ℕ) (t u : Tree) (r : Component) (e : c ≡ repli
       each-append validTree (replicate i point) (merge x y ∷ r)
       ∙ rw (parts-valid .0, f, g, parts-valid .3) (by-test (lastAtMost x y) (λ b. rw b) (λ b. rw b))
 
-  -- K3: a left merge after i points is a valid tree where it may be a child at all: it is one if the two are in order and no rotation is less
+  -- a left merge after i points is a valid tree where it may be a child at all: it is one if the two are in order and no rotation is less
   pub left-child : isChild c (replicate i point ++ (merge t u ∷ r)) ≡ (atMost compareTree t u && isLeast (replicate i point ++ (merge t u ∷ r)))
   left-child =
       let d = replicate i point ++ (merge t u ∷ r) in
@@ -132,7 +132,7 @@ module _ (c : Component) (i : ℕ) (t u : Tree) (r : Component) (e : c ≡ repli
       rw h (child-if-valid c d (lead-hasParent i t u r) p ∙ valid-if-least d (nonempty-append (replicate i point) (merge t u) r) ∙ ap (λ b. b && isLeast d) (trees-valid t u (parts-valid .1) (parts-valid .2) ∙ last-atMost t u h)))
       (λ h. rw (h, e) (is-false (isChild (replicate i point ++ (t ∷ u ∷ r)) d) (λ q. no-both ((left-place (replicate i point) t u r q) .1) h)))
 
-  -- K3: a right merge after i points is a child if the two are in order, the last branch of the second is at most the first, and no rotation is less
+  -- a right merge after i points is a child if the two are in order, the last branch of the second is at most the first, and no rotation is less
   pub right-child : isChild c (replicate i point ++ (merge u t ∷ r))
       ≡ (atMost compareTree t u && lastAtMost u t && isLeast (replicate i point ++ (merge u t ∷ r)))
   right-child =

@@ -50,7 +50,7 @@ module _ (S : System) (c : canonical S ≡ true) (h : weight S ≤ 200) where
   numbers-short : allBelow 16384 (numbers S) ≡ true
   numbers-short = numbers-below 16384 S c (omega arith)
 
-  -- S5: the written code is accepted as the system
+  -- the written code is accepted as the system
   pub written-back : accepted (written S) ≡ done S
   unfolding accepted written
   written-back = rw (cut-bytes (numbers S) numbers-short) (read-system S c h)
@@ -73,7 +73,7 @@ accepted-good b h =
     good-then _ (Code b) (cut b) readSystem (cut-good b h) (λ xs q.
     good-weaken _ (Code b) (readSystem xs) (system-good xs) (λ S r. (q .0 ∙ ap bytes (r .0), r .1, r .2)))
 
--- S5: bytes that are accepted are the written code of a canonical system
+-- bytes that are accepted are the written code of a canonical system
 pub accepted-is : (b : List ℕ) (S : System) → allBelow 256 b ≡ true → accepted b ≡ done S → (b ≡ written S) × (canonical S ≡ true) × (weight S ≤ 200)
 accepted-is b S h e = good-done (Code b) (accepted b) S e (accepted-good b h)
 
