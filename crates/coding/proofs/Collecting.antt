@@ -18,7 +18,7 @@ use Rattle.patterns.specs.Table.{image, onCycle, leadsCycle, systemOfTable}
 use Rattle.patterns.specs.MapOf.{mapOf}
 use Rattle.patterns.specs.Isomorphism.{Isomorphism}
 use Rattle.patterns.proofs.Trees.{length-flat}
-use Rattle.patterns.proofs.Rotations.{rotated-perm, valid-nonempty}
+use Rattle.patterns.proofs.Rotations.{Rotated, rotated-perm, valid-nonempty}
 use Rattle.written.specs.Putting.{placed}
 use Rattle.map_theory.specs.Plants.{Plant, shape, root, labels, shapes, compareShapes, plantsAlong, joined}
 use Rattle.links.specs.Links.{Links}
@@ -168,6 +168,9 @@ module _ {f marks d e : List ℕ} {x end m : ℕ} {sizes₀ sizes trees labelled
         }
 
     module _ {next : ℕ} {trees′ labelled′ : List ℕ} (w : ComponentWritten f z end trees labelled next trees′ labelled′) where
+      turned : Rotated (plantsAlong f z) (w .plants)
+      turned = record { front = w .front; back = w .back; cut = w .cut; joined = w .joined }
+
       all : Planted (joined (sorted (g .made)) ++ w .plants) 0 d e next trees′ labelled′
       all =
           planted-then
@@ -181,7 +184,7 @@ module _ {f marks d e : List ℕ} {x end m : ℕ} {sizes₀ sizes trees labelled
             arith,
             length-labels (w .plants),
             length-labels (plantsAlong f z),
-            perm-length (perm-gather labels (rotated-perm (w .turned))),
+            perm-length (perm-gather labels (rotated-perm turned)),
           )
 
       next-bound : (end < next) × (next ≤ length f)
@@ -230,12 +233,12 @@ module _ {f marks d e : List ℕ} {x end m : ℕ} {sizes₀ sizes trees labelled
             sizes-are = r .0;
             planted = r .1;
             valid = each-cons validComponent (shapes (g .made)) (w .valid) (g .valid);
-            arrows = λ c u i j. either (in-cons-cases i) (λ p. turned-arrows f z (w .turned) (in-list p j)) (λ k. g .arrows c u k j);
+            arrows = λ c u i j. either (in-cons-cases i) (λ p. turned-arrows f z turned (in-list p j)) (λ k. g .arrows c u k j);
             cycles = λ c i. either (in-cons-cases i)
-                (λ p. rw p (turned-cycle f z on (w .turned)))
+                (λ p. rw p (turned-cycle f z on turned))
                 (λ k. g .cycles c k);
             points-are =
-                perm-trans (perm-append (perm-gather labels (rotated-perm (w .turned))) (g .points-are))
+                perm-trans (perm-append (perm-gather labels (rotated-perm turned)) (g .points-are))
                 (perm-path (sym (from-take f x z q (g .passed) t)));
           }
 

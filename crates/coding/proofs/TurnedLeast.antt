@@ -80,7 +80,10 @@ module _ {f last before : List ℕ} {x at : ℕ} {d e : List ℕ} (a : CycleAske
         let q : map shape (back ++ front) ≡ l .back ++ l .front = map-append shape back front ∙ ap₂ _++_ (s .4) (s .3) in
         record {
           plants = back ++ front;
-          turned = record { front = front; back = back; cut = s .2; joined = refl };
+          front = front;
+          back = back;
+          cut = s .2;
+          joined = refl;
           valid = ap validComponent q ∙ least-valid (map shape (plantsAlong f x)) l (along-nonempty f x) (along-trees f x);
           planted =
               planted-exchanged [] front back {mid = at} {end = at + r}

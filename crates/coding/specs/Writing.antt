@@ -1,12 +1,11 @@
 -- What the functions from tables to systems find and leave in lent slices: trees and, at the same places, labels.
 use mathlib.Core.Path.{_≡_}
 use mathlib.Core.Bool.{true}
-use mathlib.Core.List.{List, map}
+use mathlib.Core.List.{List, _++_, map}
 use Prim.Native.Nat.{ℕ, _+_, _≤_, _<_}
 use lib.ListN.{length}
 use Rattle.patterns.specs.Tree.{size}
 use Rattle.patterns.specs.Component.{points, validComponent}
-use Rattle.patterns.proofs.Rotations.{Rotated}
 use Rattle.patterns.specs.Table.{image, isTable, onCycle}
 use Rattle.links.specs.Links.{Links}
 use Rattle.map_theory.specs.Plants.{Plant, shape, plantAt, plantsAlong}
@@ -44,6 +43,9 @@ pub record CycleAsked (f last before : List ℕ) (x : ℕ) (trees labels : List 
 -- is valid. Where several turns are least, which one it is is left free.
 pub record ComponentWritten (f : List ℕ) (x start : ℕ) (d e : List ℕ) (end : ℕ) (trees labels : List ℕ) : Type 0 where
   pub plants : List Plant
-  pub turned : Rotated (plantsAlong f x) plants
+  pub front : List Plant
+  pub back : List Plant
+  pub cut : plantsAlong f x ≡ front ++ back
+  pub joined : plants ≡ back ++ front
   pub valid : validComponent (map shape plants) ≡ true
   pub planted : Planted plants start d e end trees labels

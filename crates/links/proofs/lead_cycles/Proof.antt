@@ -4,7 +4,7 @@ use Prim.Native.Nat.{_+_, _-_, _<_}
 use lib.ListN.{length}
 use native.Mathlib.Omega.{arith}
 use borrow.Author.Needs.{needs}
-use Rattle.links.specs.Leads.{Lesser}
+use Rattle.links.specs.Leads.{LeadsAsked, Lesser}
 use Rattle.cycles.proofs.Marks.{marks-off, marks-on}
 use Rattle.links.proofs.Descending.{lesser-start, lesser-off, lesser-on, lesser-end}
 use Rattle.links.proofs.lead_cycles.Statement.{statement}
@@ -16,67 +16,53 @@ Inv-loop f marks leads₀ x₀ leads x = Lesser f leads x
 abbrev μ-loop : tie.MeasureT-loop
 μ-loop f marks leads₀ x₀ leads x = x
 
-set-all-requires : tie.Need-set-all-requires Inv-loop μ-loop
-set-all-requires c κs = search needs
+-- At the loop, what was asked for; before the last turn, the point of the turn, and what is known of the greater ones.
+abbrev asked : (c : tie.At-loop Inv-loop μ-loop) → let a = c .before .before .before .before .before .before .before .before .args in LeadsAsked (now (a .f)) (now (a .marks)) (now (a .leads))
+asked c = c .before .before .before .before .before .before .before .before .pre
+
+here : (c : tie.At-loop Inv-loop μ-loop) → 0 < c .loop .x → c .loop .x - 1 < length (now (c .before .before .before .before .before .before .before .before .args .f))
+here c h = omega (arith, c .loop .inv .passed)
+
+greater : (c : tie.At-loop Inv-loop μ-loop) → 0 < c .loop .x → Lesser (now (c .before .before .before .before .before .before .before .before .args .f)) (c .loop .leads) (c .loop .x - 1 + 1)
+greater c h =
+    let e : c .loop .x ≡ c .loop .x - 1 + 1 = omega arith in
+    subst (λ k. Lesser (now (c .before .before .before .before .before .before .before .before .args .f)) (c .loop .leads) k) e (c .loop .inv)
 
 loop-holds : tie.Need-loop-holds Inv-loop μ-loop
-loop-holds c =
-    let s = c .before .before .before .before .before .before .before in
-    lesser-start (now (s .args .f)) _ _ (c .before .before .set-all .ensures) (s .pre .room)
-
-sub-x : tie.Need-sub-x Inv-loop μ-loop
-sub-x c = search needs
+loop-holds c = let s = c .before .before .before .before .before .before .before in lesser-start (now (s .args .f)) _ _ (c .before .before .set-all .ensures) (s .pre .room)
 
 shared-slice-read-if1 : tie.Need-shared-slice-read-if1 Inv-loop μ-loop
-shared-slice-read-if1 c = omega (arith, c .before .before .before .before .before .before .before .before .before .before .pre .marked .same, c .before .before .loop .inv .passed)
+shared-slice-read-if1 c = let l = c .before .before in omega (arith, (asked l) .marked .same, l .loop .inv .passed)
 
 next-lesser-requires : tie.Need-next-lesser-requires Inv-loop μ-loop
 next-lesser-requires c κs =
-    let s = c .before .before .before .before .before .before .before .before .before .before .before .before in
-    let l = c .before .before .before .before .loop in
-    let here : l .x - 1 < length (now (s .args .f)) = omega (arith, l .inv .passed) in
-    let e : l .x ≡ (l .x - 1) + 1 = omega arith in
-    let greater = subst (λ k. Lesser (now (s .args .f)) (l .leads) k) e (l .inv) in
-    record { table = s .pre .table; here = here; on-cycle = marks-on (s .pre .marked) here (c .before .if1 .taken); greater = greater }
+    let l = c .before .before .before .before in
+    let h = here l (omega arith) in
+    record { table = (asked l) .table; here = h; on-cycle = marks-on ((asked l) .marked) h (c .before .if1 .taken); greater = greater l (omega arith) }
 
 cast-leads : tie.Need-cast-leads Inv-loop μ-loop
-cast-leads c = omega (arith, c .next-lesser .ensures .not-above, c .before .before .before .before .before .loop .inv .passed, c .before .before .before .before .before .before .before .before .before .before .before .before .before .pre .small)
+cast-leads c = let l = c .before .before .before .before .before in omega (arith, c .next-lesser .ensures .not-above, l .loop .inv .passed, (asked l) .small)
 
 slice-write-leads : tie.Need-slice-write-leads Inv-loop μ-loop
-slice-write-leads c = omega (arith, c .before .before .before .before .before .loop .inv .room, c .before .before .before .before .before .loop .inv .passed)
-
-loop-less : tie.Need-loop-less Inv-loop μ-loop
-loop-less c = omega arith
+slice-write-leads c = let l = c .before .before .before .before .before in omega (arith, l .loop .inv .room, l .loop .inv .passed)
 
 loop-again : tie.Need-loop-again Inv-loop μ-loop
 loop-again c =
-    let s = c .before .before .before .before .before .before .before .before .before .before .before .before .before in
-    let l = c .before .before .before .before .before .loop in
-    let here : l .x - 1 < length (now (s .args .f)) = omega (arith, l .inv .passed) in
-    let e : l .x ≡ (l .x - 1) + 1 = omega arith in
-    let greater = subst (λ k. Lesser (now (s .args .f)) (l .leads) k) e (l .inv) in
-    lesser-on greater (c .next-lesser .result) (marks-on (s .pre .marked) here (c .before .before .if1 .taken)) (c .next-lesser .ensures)
-
-loop-less-2 : tie.Need-loop-less-2 Inv-loop μ-loop
-loop-less-2 c = omega arith
+    let l = c .before .before .before .before .before in
+    lesser-on (greater l (omega arith)) (c .next-lesser .result) (marks-on ((asked l) .marked) (here l (omega arith)) (c .before .before .if1 .taken))
+    (c .next-lesser .ensures)
 
 loop-again-2 : tie.Need-loop-again-2 Inv-loop μ-loop
-loop-again-2 c =
-    let s = c .before .before .before .before .before .before .before .before .before .before .before in
-    let l = c .before .before .before .loop in
-    let here : l .x - 1 < length (now (s .args .f)) = omega (arith, l .inv .passed) in
-    let e : l .x ≡ (l .x - 1) + 1 = omega arith in
-    let greater = subst (λ k. Lesser (now (s .args .f)) (l .leads) k) e (l .inv) in
-    lesser-off greater (marks-off (s .pre .marked) here (c .if1 .left))
+loop-again-2 c = let l = c .before .before .before in lesser-off (greater l (omega arith)) (marks-off ((asked l) .marked) (here l (omega arith)) (c .if1 .left))
 
 same-length : tie.Need-same-length Inv-loop μ-loop
-same-length c = c .before .loop .inv .room ∙ sym (c .before .before .before .before .before .before .before .before .before .pre .room)
+same-length c = let l = c .before in l .loop .inv .room ∙ sym ((asked l) .room)
 
 returns : tie.Need-returns Inv-loop μ-loop
 returns c =
-    let l = c .before .loop in
-    let e : l .x ≡ 0 = omega arith in
-    lesser-end (c .before .before .before .before .before .before .before .before .before .pre .small) (subst (λ k. Lesser (now (c .before .before .before .before .before .before .before .before .before .args .f)) (l .leads) k) e (l .inv))
+    let l = c .before in
+    let e : l .loop .x ≡ 0 = omega arith in
+    lesser-end ((asked l) .small) (subst (λ k. Lesser (now (l .before .before .before .before .before .before .before .before .args .f)) (l .loop .leads) k) e (l .loop .inv))
 
 pub lead-cycles-spec : {M : Type 1} → statement M
 lead-cycles-spec =
@@ -84,16 +70,16 @@ lead-cycles-spec =
     (tie.spec
     Inv-loop
     μ-loop
-    set-all-requires
+    (λ c κs. search needs)
     loop-holds
-    sub-x
+    (λ c. search needs)
     shared-slice-read-if1
     next-lesser-requires
     cast-leads
     slice-write-leads
-    loop-less
+    (λ c. omega arith)
     loop-again
-    loop-less-2
+    (λ c. omega arith)
     loop-again-2
     same-length
     returns)
