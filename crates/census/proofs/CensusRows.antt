@@ -7,21 +7,21 @@ use Prim.Native.Nat.{ℕ, zero, suc, _-_, _≤_, _<_}
 use native.Mathlib.Omega.{arith}
 use lib.Dec.{eqb}
 use borrow.Author.Tests.{eqb-true, eqb-false, ne-eqb}
-use lib.ListN.{length, getD, take, drop, length-map, length-append}
-use lib.Seq.{take-at, length-take-le, getD-take}
+use lib.ListN.{length, getD, take, drop, length-map}
+use lib.Seq.{take-at, length-take-le}
 use Rattle.lists.specs.Select.{range, times}
 use Rattle.lists.proofs.Tests.{_∈_, by-test, not-of-true}
 use Rattle.lists.proofs.Members.{in-range, of-range, in-keep, of-keep, nodup-keep, nodup-range}
 use Rattle.lists.proofs.Places.{times-nodup, times-out, times-in, in-of-times}
 use Rattle.patterns.specs.Table.{image}
-use Rattle.patterns.specs.Census.{greatest, Row, cycleLengths, cyclesOf, height, longestCycle, Census}
+use Rattle.patterns.specs.Census.{greatest, Row, cycleLengths, cyclesOf, longestCycle, Census}
 use Rattle.lists.proofs.Gathering.{map-same}
 use Rattle.map_theory.proofs.Orbits.{orbit-length}
 use Rattle.map_theory.proofs.Leaders.{cycle-period, leader-onCycle}
 use Rattle.map_theory.proofs.CensusTheory.{greatest-bound, greatest-in, of-cycleLengths, cycleLengths-positive, occurs, occurs-not, census-fits}
 use Rattle.census.specs.Counts.{Counts}
 use Rattle.census.specs.declared.Rows.{Rows}
-use Rattle.census.specs.Rows.{counted, rowsIn, RowsRoom, Listed, RowsOf}
+use Rattle.census.specs.Rows.{counted, RowsRoom, Listed, RowsOf}
 use Rattle.patterns.specs.Census.{rowsOf}
 
 positive : (k : ℕ) → (k ≡ 0 → ⊥) → 0 < k
@@ -54,21 +54,6 @@ rows-at (l ∷ ls) [] i d h k = absurd (omega arith)
 rows-at (l ∷ ls) (c ∷ cs) zero d h k = refl
 rows-at (l ∷ ls) (c ∷ cs) (suc i) d h k = rows-at ls cs i d (omega arith) (omega arith)
 
--- r holds as many rows as it says, if there are so many places
-pub rowsIn-length : (r : Rows) → r .rows ≤ length (r .lengths) → r .rows ≤ length (r .counts) → length (rowsIn r) ≡ r .rows
-rowsIn-length r h k =
-    let a = length-take-le (r .rows) (r .lengths) h in
-    let b = length-take-le (r .rows) (r .counts) k in
-    rows-length (take (r .rows) (r .lengths)) (take (r .rows) (r .counts)) (a ∙ sym b) ∙ a
-
--- and its row i stands at place i of both
-pub rowsIn-at : (r : Rows) (i : ℕ) (d : Row) → i < r .rows → r .rows ≤ length (r .lengths) → r .rows ≤ length (r .counts)
-    → getD (rowsIn r) i d ≡ record { cycleLength = getD (r .lengths) i 0; cycles = getD (r .counts) i 0 }
-rowsIn-at r i d h a b =
-    rows-at (take (r .rows) (r .lengths)) (take (r .rows) (r .counts)) i d
-    (omega (arith, length-take-le (r .rows) (r .lengths) a)) (omega (arith, length-take-le (r .rows) (r .counts) b))
-    ∙ rw (getD-take (r .rows) (r .lengths) i 0 h, getD-take (r .rows) (r .counts) i 0 h)
-
 -- the greatest number depends on the members alone
 greatest-inside : (l m : List ℕ) → ((x : ℕ) → x ∈ l → x ∈ m) → greatest l ≤ greatest m
 greatest-inside [] m h = omega arith
@@ -86,9 +71,6 @@ module _ {tallies lengths₀ counts₀ lengths counts : List ℕ} {rows : ℕ} (
   listed-counts =
       ap (take rows) (d .counts-are)
       ∙ take-at (map (λ l. getD tallies l 0) (counted tallies)) (drop rows counts₀) rows (length-map (counted tallies) (λ l. getD tallies l 0) ∙ sym (d .many))
-
-  pub listed-within : rows ≤ length lengths
-  listed-within = omega (arith, d .many, ap length (d .lengths-are), length-append (counted tallies) (drop rows lengths₀))
 
 module _ (f tallies : List ℕ) (c : Counts f tallies) (inside : (x : ℕ) → x < length f → image f x < length f) where
   -- a number is counted exactly if it is the length of a cycle

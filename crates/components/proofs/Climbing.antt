@@ -1,4 +1,4 @@
--- A step up in numbers: the leftmost tree of more than one point begins at the number of leading points; subtracting the size of its last branch from its
+-- A step up in memory: the leftmost tree of more than one point begins at the number of leading points; subtracting the size of its last branch from its
 -- first number leaves its two parts one after the other, and they are exchanged where the second is the lesser.
 use mathlib.Core.Path.{_≡_, refl, ap, ap₂, sym, _∙_}
 use mathlib.Core.Bool.{true, false}
@@ -48,7 +48,7 @@ led (merge t u ∷ c) i = record { left = t; right = u; rest = c; trees = refl }
 pub led-at : (s : List ℕ) (h : ℕ) (c : Component) → s ≡ flat c → h ≡ leadingPoints c → h < length s → Led c h
 led-at s h c e q k = rw q (led c (omega (arith, ap length e, length-flat c)))
 
--- the merged tree at h has its last branch b numbers further: both parts have points, and both stand within the numbers
+-- the merged tree at h has its last branch b bytes further: both parts have points, and both stand within the bytes
 pub record Cut (s : List ℕ) (h b : ℕ) : Type 0 where
   pub left-some : 0 < b
   pub right-some : 0 < getD s (h + b) 0
@@ -130,7 +130,7 @@ module _ {s : List ℕ} {h : ℕ} {c : Component} (v : Led c h) (e : s ≡ flat 
         ∙ set-at (ones h) (size t + size u) (below (merge t u) ++ flat r) (size t) h (length-ones h)
         ∙ ap (λ l. ones h ++ (size t ∷ l)) (append-assoc (below t) (code u) (flat r))
 
-    -- the numbers after the subtraction
+    -- the bytes after the subtraction
     abbrev after : List ℕ
     after = set s h (getD s h 0 - getD s (h + b) 0)
 

@@ -29,7 +29,7 @@ pub record Period (period : ℕ) (a : Component) : Type 0 where
 abbrev pub Kept : ℕ → Component → Component → Type 0
 Kept period a r = Period period a
 
--- no numbers: there is no rotation
+-- no bytes: there is no rotation
 pub none-less : (s : List ℕ) → length s ≡ 0 → (c : Component) → s ≡ flat c → true ≡ each (atMost compareComponent c) (rotations c)
 none-less s h c e =
     let q : c ≡ [] = no-trees c (omega (arith, ap length e, length-flat c)) in
@@ -44,7 +44,7 @@ kept-start {s} h k =
     subst (λ i. Along s i (Kept (getD s 0 0))) q
     (along-step w n (Kept (getD s 0 0)) (record { count = 1; word = prenecklace-one compareTree (n .tree); place = omega (arith, n .number) }))
 
--- the numbers of the trees that begin at two places, compared
+-- the codes of the trees that begin at two places, compared
 abbrev pub treesAt : List ℕ → ℕ → ℕ → Ordering
 treesAt s i j = lex compare (take (i + getD s i 0 - i) (drop i s)) (take (j + getD s j 0 - j) (drop j s))
 

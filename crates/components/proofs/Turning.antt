@@ -39,7 +39,7 @@ module _ (s : List ℕ) (p : ℕ) (h : p ≤ length s) where
       → then o (lex compare (take (length s - (length s - p)) (drop (length s - p) s)) (take p s)) ≡ lex compare s (drop p s ++ take p s)
   turned-by o e = sym (turned ∙ ap (λ k. then k (lex compare (take (length s - (length s - p)) (drop (length s - p) s)) (take p s))) e)
 
--- Trees: a component cut in two, its numbers and its trees turned alike.
+-- Trees: a component cut in two, its bytes and its trees turned alike.
 pub turned-trees : (s : List ℕ) (a r : Component) (at : ℕ) → s ≡ flat (a ++ r) → at ≡ points a
     → atMost (lex compare) s (drop at s ++ take at s) ≡ atMost compareComponent (a ++ r) (r ++ a)
 turned-trees s a r at e h =
@@ -49,7 +49,7 @@ turned-trees s a r at e h =
     let t : take at s ≡ flat a = ap (take at) parts ∙ take-at (flat a) (flat r) at l in
     ap isLe (ap₂ (lex compare) e (ap₂ _++_ d t ∙ sym (flat-append r a)) ∙ sym (compareComponent-flat (a ++ r) (r ++ a)))
 
--- What a valid component is: some numbers, valid trees, and no rotation that is less.
+-- What a valid component is: some bytes, valid trees, and no rotation that is less.
 pub valid-not-empty : (s : List ℕ) → length s ≡ 0 → (c : Component) → s ≡ flat c → false ≡ validComponent c
 unfolding validComponent
 valid-not-empty s h c e =

@@ -10,7 +10,7 @@ use Rattle.component_theory.specs.Path.{key}
 use Rattle.components.specs.declared.Climb.{Climb}
 use Rattle.components.specs.declared.Climb.the-variants.{Root, Key}
 
--- a component, and a buffer of as many numbers
+-- a component, and a buffer of as many bytes
 pub record HeldBeside (s out : List ℕ) : Type 0 where
   pub trees : Component
   pub is : s ≡ flat trees

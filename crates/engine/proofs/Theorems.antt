@@ -9,7 +9,7 @@ use lib.Dec.{leb}
 use lib.ListN.{length, take, drop}
 use lib.Seq.{take-at}
 use borrow.Author.Tests.{le-ltb, le-leb}
-use Rattle.lists.proofs.Tests.{by-test}
+use Rattle.lists.proofs.Tests.{by-test, clash}
 use Rattle.patterns.specs.declared.Refusal.{Refusal}
 use Rattle.patterns.specs.System.{System, weight}
 use Rattle.patterns.specs.Written.{written}
@@ -35,10 +35,10 @@ result-written (gives l) {before} {after} {n} p =
     let q : length-is n ≡ length-is (length l) = p .reply ∙ rw e in
     let k : n ≡ length l = cc in
     (l, refl, k, ap (take n) (p .output ∙ rw e) ∙ take-at l (drop (length l) before) n (sym k)))
-    (λ e. let q : length-is n ≡ refused 8 = p .reply ∙ rw e in absurd (let z : _≡_ {A = ℕ} 0 1 = cc in omega arith))
-result-written ends p = let q = p .reply in absurd (let z : _≡_ {A = ℕ} 0 1 = cc in omega arith)
-result-written lacks p = let q = p .reply in absurd (let z : _≡_ {A = ℕ} 0 1 = cc in omega arith)
-result-written (fails c) p = let q = p .reply in absurd (let z : _≡_ {A = ℕ} 0 1 = cc in omega arith)
+    (λ e. let q : length-is n ≡ refused 8 = p .reply ∙ rw e in clash cc)
+result-written ends p = let q = p .reply in clash cc
+result-written lacks p = let q = p .reply in clash cc
+result-written (fails c) p = let q = p .reply in clash cc
 
 -- the code of a table that passes the checks
 pub code-gives : (f : List ℕ) → length f ≤ 200 → isTable f ≡ true → codeOfMap f ≡ gives (written (systemOfTable f))
@@ -60,7 +60,7 @@ map-has-code b {before} {after} {n} h p = of (accepted b) refl p
         ∙ code-gives (mapOf S) (omega (arith, length-mapOf S, c .2)) (mapOf-table S)
         ∙ ap (λ R. gives (written R)) (system-of-map S (c .1))
         ∙ ap gives (sym (c .0))
-    of (fault c) e q = let z = result-written (fails c) q in absurd (let y = z .1 in let w : _≡_ {A = ℕ} 0 1 = cc in omega arith)
+    of (fault c) e q = let z = result-written (fails c) q in (let y = z .1 in clash cc)
 
 -- given room, the code of a map is what "code of a map" writes
 pub code-fills : (f : List ℕ) {before after : List ℕ} {a : Answer} → length f ≤ 200 → isTable f ≡ true → Replied (codeOfMap f) before a after
@@ -93,10 +93,10 @@ module _ (f g : List ℕ) (c : checkedTable f ≡ done f) (d : checkedTable g �
   second-table = checked-table g d
 
   first-fails : {r : Refusal} → checkedTable f ≡ fault r → ⊥
-  first-fails e = let y = sym c ∙ e in let z : _≡_ {A = ℕ} 0 1 = cc in omega arith
+  first-fails e = let y = sym c ∙ e in clash cc
 
   second-fails : {r : Refusal} → checkedTable g ≡ fault r → ⊥
-  second-fails e = let y = sym d ∙ e in let z : _≡_ {A = ℕ} 0 1 = cc in omega arith
+  second-fails e = let y = sym d ∙ e in clash cc
 
   first-weight : weight (systemOfTable f) ≡ length f
   first-weight = table-weight (length f) f refl (first-table .table)
@@ -127,8 +127,8 @@ module _ (f g : List ℕ) (c : checkedTable f ≡ done f) (d : checkedTable g �
       of o (second-refused q u) k = second-fails u
       of o (found {r = r} q u l i) k =
           by-test (leb (length r) (length before))
-          (λ t. let y : lacking ≡ length-is (length r) = k ∙ rw t in let z : _≡_ {A = ℕ} 0 1 = cc in omega arith)
-          (λ t. let y : lacking ≡ refused 8 = k ∙ rw t in let z : _≡_ {A = ℕ} 0 1 = cc in omega arith)
+          (λ t. let y : lacking ≡ length-is (length r) = k ∙ rw t in clash cc)
+          (λ t. let y : lacking ≡ refused 8 = k ∙ rw t in clash cc)
       of o (lengths-differ q u h) k = h (sym first-weight ∙ ap weight (same-systems e) ∙ second-weight)
       of o (not-found q u l h) k =
           let i = same-system-isomorphic (length f) f g refl (first-table .table) (sym l) (second-table .table) (same-systems e) in

@@ -22,18 +22,18 @@ use Rattle.form_theory.proofs.WrittenBack.{written-back, written-bytes,
 use Rattle.form_theory.proofs.Stretches.{component-stretch, component-ends}
 
 -- The component at position i of the code b stands from start to end.
-pub record Stands (b : List ℕ) (i start end : ℕ) : Type 0 where
+pub record ComponentAt (b : List ℕ) (i start end : ℕ) : Type 0 where
   pub system : System
   pub is : accepted b ≡ done system
   pub inside : i < length system
   pub start-is : start ≡ startOf system i
   pub end-is : end ≡ startOf system (i + 1)
 
-pub stands : (b : List ℕ) (i start end : ℕ) → componentOf b i ≡ done (start, end) → Stands b i start end
+pub stands : (b : List ℕ) (i start end : ℕ) → componentOf b i ≡ done (start, end) → ComponentAt b i start end
 unfolding componentOf
 stands b i start end e = of (accepted b) refl e
   where
-    of : (o : Result System) → accepted b ≡ o → andThen o (λ S. componentIn S i) ≡ done (start, end) → Stands b i start end
+    of : (o : Result System) → accepted b ≡ o → andThen o (λ S. componentIn S i) ≡ done (start, end) → ComponentAt b i start end
     of (done S) p q =
         by-test (ltb i (length S))
         (λ t.
@@ -44,7 +44,7 @@ stands b i start end e = of (accepted b) refl e
     of (fault c) p q = clash cc
 
 -- both ends lie within the code
-pub stands-within : {b : List ℕ} {i start end : ℕ} → allBelow 256 b ≡ true → Stands b i start end → (start < end) × (end ≤ length b)
+pub stands-within : {b : List ℕ} {i start end : ℕ} → allBelow 256 b ≡ true → ComponentAt b i start end → (start < end) × (end ≤ length b)
 stands-within {b} h s =
     let ends = component-ends (s .system) _ (s .inside) in
     let whole = accepted-is b (s .system) h (s .is) .0 in
@@ -57,7 +57,7 @@ drop-take (suc a) (suc e) [] = rw take-nil
 drop-take (suc a) (suc e) (x ∷ l) = let p : suc e - suc a ≡ e - a = omega arith in rw p (drop-take a e l)
 
 -- What is shown: the number of trees of the component at position i of the code's system, and then their codes, as they are written.
-pub component-shown : {b : List ℕ} {i start end : ℕ} → allBelow 256 b ≡ true → (s : Stands b i start end)
+pub component-shown : {b : List ℕ} {i start end : ℕ} → allBelow 256 b ≡ true → (s : ComponentAt b i start end)
     → take (end - start) (drop start b) ≡ bytes (componentNumbers (getD (s .system) i []))
 component-shown {b} {i} {start} {end} h s =
     let S = s .system in
@@ -78,6 +78,6 @@ module _ (S : System) (c : canonical S ≡ true) (h : weight S ≤ 200) where
       → now part ≡ bytes (componentNumbers (getD S i []))
   component-whole code part i e k s =
       let p = rw (e, position-inside i k) at s in
-      let here : Stands (written S) i (startOf S i) (startOf S (i + 1)) =
+      let here : ComponentAt (written S) i (startOf S i) (startOf S (i + 1)) =
       record { system = S; is = written-back S c h; inside = k; start-is = refl; end-is = refl } in
       p .bytes-are ∙ component-shown (written-bytes S c h) here

@@ -18,16 +18,16 @@ pub record Node (s : List ℕ) : Type 0 where
   pub valid : validComponent trees ≡ true
   pub small : length s ≤ 200
 
--- a buffer of as many numbers
+-- a buffer of as many bytes
 abbrev pub AsLong : List ℕ → List ℕ → Type 0
 AsLong s out = length out ≡ length s
 
--- a valid component of at most 200 points whose first i trees are points and that has two trees more, and a buffer of as many numbers
+-- a valid component of at most 200 points whose first i trees are points and that has two trees more, and a buffer of as many bytes
 pub record HeldCandidate (s : List ℕ) (i : ℕ) (out : List ℕ) : Type 0 where
   pub pair : HeldNeighbours s i out
   pub valid : validComponent (behind i (pair .this ∷ pair .that ∷ pair .after)) ≡ true
 
--- a valid component of at most 200 points with its numbers of pairs of neighbours and of leading points, and a buffer of as many numbers
+-- a valid component of at most 200 points with its numbers of pairs of neighbours and of leading points, and a buffer of as many bytes
 pub record HeldScan (s : List ℕ) (pairs lead : ℕ) (out : List ℕ) : Type 0 where
   pub node : Node s
   pub room : AsLong s out

@@ -9,7 +9,7 @@ use lib.ListN.{length, take, drop}
 use lib.Seq.{take-at}
 use borrow.Author.Tests.{le-ltb, le-leb}
 use Rattle.lists.specs.Select.{first}
-use Rattle.lists.proofs.Tests.{_∈_, by-test}
+use Rattle.lists.proofs.Tests.{_∈_, by-test, clash}
 use Rattle.lists.proofs.Members.{lawful-decides, in-head, in-list, in-middle, nodup-apart}
 use Rattle.lists.proofs.Places.{from-split, next-split}
 use Rattle.patterns.specs.System.{System, weight, canonical, codes}
@@ -56,7 +56,7 @@ first-here n small = rw (le-ltb 200 n (omega arith))
 module _ {before after : List ℕ} where
   pub line-ready : (r : List System) (k : ℕ) → Replied (listed (first r)) before (length-is k) after
       → (S : System) × (r′ : List System) × (r ≡ S ∷ r′) × (k ≡ length (written S)) × (take k after ≡ written S)
-  line-ready [] k p = let z : _≡_ {A = ℕ} 0 1 = cc (p .reply) in absurd (omega arith)
+  line-ready [] k p = clash (cc (p .reply))
   line-ready (S ∷ r) k p =
       by-test (leb (length (written S)) (length before))
       (λ t.
@@ -64,18 +64,18 @@ module _ {before after : List ℕ} where
       let f : after ≡ written S ++ drop (length (written S)) before = rw t at (p .output) in
       let g : k ≡ length (written S) = cc in
       (S, r, refl, g, rw f (take-at (written S) (drop (length (written S)) before) k (sym g))))
-      (λ t. let e : length-is k ≡ refused 8 = rw t at (p .reply) in let z : _≡_ {A = ℕ} 0 1 = cc in absurd (omega arith))
+      (λ t. let e : length-is k ≡ refused 8 = rw t at (p .reply) in clash cc)
 
   pub list-ends : (r : List System) → Replied (listed (first r)) before last after → r ≡ []
   list-ends [] p = refl
   list-ends (S ∷ r) p =
       by-test (leb (length (written S)) (length before))
-      (λ t. let e : last ≡ length-is (length (written S)) = rw t at (p .reply) in let z : _≡_ {A = ℕ} 0 1 = cc in absurd (omega arith))
-      (λ t. let e : last ≡ refused 8 = rw t at (p .reply) in let z : _≡_ {A = ℕ} 0 1 = cc in absurd (omega arith))
+      (λ t. let e : last ≡ length-is (length (written S)) = rw t at (p .reply) in clash cc)
+      (λ t. let e : last ≡ refused 8 = rw t at (p .reply) in clash cc)
 
   pub never-refused : (r : List System) (c : ℕ) → ((S : System) (r′ : List System) → r ≡ S ∷ r′ → length (written S) ≤ length before)
       → Replied (listed (first r)) before (refused c) after → ⊥
-  never-refused [] c f p = let z : _≡_ {A = ℕ} 0 1 = cc (p .reply) in omega arith
+  never-refused [] c f p = clash (cc (p .reply))
   never-refused (S ∷ r) c f p =
       let e : refused c ≡ length-is (length (written S)) = rw (le-leb (length (written S)) (length before) (f S r refl)) at (p .reply) in
       let z : _≡_ {A = ℕ} 0 1 = cc in

@@ -93,10 +93,6 @@ module _ {A : Type 0} {c : A → A → Ordering} (w : Lawful c) where
   pub eq-of-path : {x y : A} → x ≡ y → c x y ≡ Ordering·eq
   eq-of-path {x} {y} e = ap (c x) (sym e) ∙ w .self x
 
-  -- nothing is less than itself
-  pub lt-irreflexive {ℓ} : {P : Type ℓ} (x : A) → c x x ≡ Ordering·lt → P
-  lt-irreflexive x e = lt-not-eq e (w .self x)
-
   pub lt-asymmetric {ℓ} : {P : Type ℓ} (x y : A) → c x y ≡ Ordering·lt → c y x ≡ Ordering·lt → P
   lt-asymmetric x y e f = lt-not-gt f (gt-of-lt x y e)
 

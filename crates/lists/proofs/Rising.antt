@@ -6,7 +6,7 @@ use Prim.Native.Nat.{ℕ, zero, suc, Ordering, Ordering·lt, compare}
 use native.Mathlib.Omega.{arith}
 use Rattle.lists.specs.Select.{keep, gather, range}
 use Rattle.lists.proofs.Tests.{_∈_, by-test, either}
-use Rattle.lists.proofs.Comparison.{Lawful, lt-irreflexive, compare-lt}
+use Rattle.lists.proofs.Comparison.{Lawful, compare-lt}
 use Rattle.lists.proofs.Members.{NoDup, one, empty, in-head, in-tail, in-cons-cases, not-in-nil, in-append-right, in-append-cases, of-keep, of-map, of-gather, of-range}
 
 -- each entry stands in the relation R to every later one
@@ -68,10 +68,6 @@ module _ {A : Type 0} {c : A → A → Ordering} where
       pairs-cons
       (λ y m. h x y in-head (in-tail m) (k y m))
       (rising-pairs R r (λ y z i j. h y z (in-tail i) (in-tail j)))
-
-module _ {A : Type 0} {c : A → A → Ordering} (w : Lawful c) where
-  pub lawful-nodup : {l : List A} → Rising c l → NoDup l
-  lawful-nodup r = rising-nodup (λ x e. lt-irreflexive w x e) r
 
 module _ {A B : Type 0} {d : B → B → Ordering} where
   -- f keeps less among the members

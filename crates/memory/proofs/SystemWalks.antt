@@ -49,22 +49,19 @@ module _ {S : System} {i start : ℕ} (w : AlongSystem S i start) where
       none [] e = refl
       none (c ∷ R) e = absurd (omega (arith, ap length (w .split), length-append (w .had) (w .rest), ap length e, w .index))
 
-  pub system-within : start ≤ weight S
-  system-within = omega (arith, w .place, ap weight (w .split), total-append points (w .had) (w .rest))
-
   module _ (n : NextComponent w) where
     pub whole : S ≡ w .had ++ (n .component ∷ n .later)
     whole = w .split ∙ ap (λ l. w .had ++ l) (n .is)
 
     -- it stands at the place, and its size is known
-    pub component-stands : {numbers : List ℕ} → numbers ≡ gather flat S → Stands (flat (n .component)) start numbers
-    component-stands {numbers} e =
+    pub component-stands : {trees : List ℕ} → trees ≡ gather flat S → Stands (flat (n .component)) start trees
+    component-stands {trees} e =
         stands-at (omega (arith, w .place, length-trees (w .had)))
         (stands-left (gather flat (n .later)) (stands-right (gather flat (w .had))
-        (stands-path (e ∙ ap (gather flat) whole ∙ gather-append flat (w .had) (n .component ∷ n .later)) (stands-self numbers))))
+        (stands-path (e ∙ ap (gather flat) whole ∙ gather-append flat (w .had) (n .component ∷ n .later)) (stands-self trees))))
 
-    pub component-part : {numbers : List ℕ} (end : ℕ) → numbers ≡ gather flat S → end ≡ start + points (n .component)
-        → take (end - start) (drop start numbers) ≡ flat (n .component)
+    pub component-part : {trees : List ℕ} (end : ℕ) → trees ≡ gather flat S → end ≡ start + points (n .component)
+        → take (end - start) (drop start trees) ≡ flat (n .component)
     component-part end e q = stands-part end (omega (arith, length-flat (n .component))) (component-stands e)
 
     pub component-size : {sizes : List ℕ} → sizes ≡ map points S → getD sizes i 0 ≡ points (n .component)

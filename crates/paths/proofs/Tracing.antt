@@ -1,4 +1,4 @@
--- Paths in numbers: comparing two paths from an index on, and writing a path from its end while the component climbs to the cycle.
+-- Paths in memory: comparing two paths from an index on, and writing a path from its end while the component climbs to the cycle.
 use mathlib.Core.Path.{_≡_, refl, ap, ap₂, sym, _∙_}
 use mathlib.Core.Bool.{Bool, true, false, not, cond, true≢false}
 use mathlib.Core.List.{List, [], _∷_, _++_, append-assoc, append-nil}

@@ -14,7 +14,7 @@ pub record HeldKeys (s keys : List ℕ) : Type 0 where
   pub room : length keys ≡ length s
   pub small : length s ≤ 200
 
--- the same, and a buffer of as many numbers
+-- the same, and a buffer of as many bytes
 pub record HeldTrace (s work keys : List ℕ) : Type 0 where
   pub trees : Component
   pub is : s ≡ flat trees
@@ -31,7 +31,7 @@ pub record HeldPair (s t : List ℕ) : Type 0 where
   pub valid : length s ≡ length t → (validComponent first ≡ true) × (validComponent second ≡ true)
   pub small : (length s ≤ 200) × (length t ≤ 200)
 
--- two of equally many points, a buffer of as many numbers, and room for as many keys of each
+-- two of equally many points, a buffer of as many bytes, and room for as many keys of each
 pub record HeldPaths (s t work keys others : List ℕ) : Type 0 where
   pub pair : HeldPair s t
   pub equal : length t ≡ length s

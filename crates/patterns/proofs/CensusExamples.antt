@@ -6,7 +6,7 @@ use native.Mathlib.Omega.{arith}
 use lib.Dec.{eqb}
 use borrow.Author.Tests.{eqb-true}
 use Rattle.lists.specs.Select.{range}
-use Rattle.lists.proofs.Tests.{by-test}
+use Rattle.lists.proofs.Tests.{by-test, clash}
 use Rattle.patterns.specs.declared.Refusal.{Refusal}
 use Rattle.patterns.specs.declared.Refusal.the-variants.{Image}
 use Rattle.patterns.specs.Reading.{Result, done, fault}
@@ -87,7 +87,7 @@ census-refused-with f c before after a e h = of (h .found) (h .isCensus) (h .rep
     of : (r : Result (List Row)) → Counted f r → a ≡ censusAnswered f r before → after ≡ filled (outcome r gives) before
         → (a ≡ census-refused (numberOf c)) × (after ≡ before)
     of r (table-refused {c = d} k) p q = let z : d ≡ c = cc in (rw z at p, q)
-    of r (counted k t) p q = absurd (let z : _≡_ {A = ℕ} 0 1 = cc in omega arith)
+    of r (counted k t) p q = clash cc
 
 pub census-of-bad-table : (before after : List Row) (a : CensusAnswer) → CensusReplied (0 ∷ 2 ∷ []) before a after → (a ≡ census-refused 2) × (after ≡ before)
 unfolding checkedTable

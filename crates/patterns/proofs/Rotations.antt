@@ -1,20 +1,20 @@
 -- Rotations of a list, the least rotation of a component, and what it means that a component is valid.
 use mathlib.Core.Path.{_≡_, refl, ap, ap₂, sym, _∙_}
 use mathlib.Core.Logic.{_⊎_, inl, inr}
-use mathlib.Core.Bool.{true, false, _&&_, true≢false}
+use mathlib.Core.Bool.{true, _&&_, true≢false}
 use mathlib.Core.List.{List, [], _∷_, _++_, append-assoc, append-nil, head-eq-of-cons-eq, tail-eq-of-cons-eq, List·Memᴰ·head}
 use Prim.Native.Nat.{ℕ, zero, suc, _+_, _≤_, _<_}
 use native.Mathlib.Omega.{arith}
-use lib.ListN.{length, length-append, replicate, length-replicate}
+use lib.ListN.{length, length-append}
 use Rattle.lists.specs.Order.{atMost}
 use Rattle.lists.specs.Select.{each}
 use Rattle.lists.proofs.Tests.{_∈_, by-test, either, and-true, true-and, each-true, each-member}
-use Rattle.lists.proofs.Comparison.{atMost-self, atMost-trans, atMost-anti, atMost-turned, atMost-cases}
+use Rattle.lists.proofs.Comparison.{atMost-self, atMost-trans, atMost-anti, atMost-turned}
 use Rattle.lists.proofs.Permute.{Perm, perm-append-comm, perm-path, perm-trans, perm-length, perm-each-same}
-use Rattle.lists.proofs.Members.{in-head, in-tail, in-list, in-moved, not-in-nil, in-cons-cases, of-replicate}
-use Rattle.patterns.specs.Tree.{point, size, validTree}
-use Rattle.patterns.specs.Component.{Component, points, compareComponent, turns, rotations, lesser, least, leastRotation, nonempty, validComponent}
-use Rattle.patterns.proofs.Trees.{compareTree-lawful, compareComponent-lawful, point-least}
+use Rattle.lists.proofs.Members.{in-head, in-tail, in-list, in-moved, not-in-nil, in-cons-cases}
+use Rattle.patterns.specs.Tree.{validTree}
+use Rattle.patterns.specs.Component.{Component, compareComponent, turns, rotations, lesser, least, leastRotation, nonempty, validComponent}
+use Rattle.patterns.proofs.Trees.{compareComponent-lawful}
 
 -- two ways to cut a list: one cut is not after the other
 pub cuts : {A : Type 0} (a b p q : List A) → a ++ b ≡ p ++ q → ((m : List A) × (p ≡ a ++ m) × (b ≡ m ++ q)) ⊎ ((m : List A) × (a ≡ p ++ m) × (q ≡ m ++ b))
@@ -110,9 +110,6 @@ module _ {A : Type 0} where
   pub split-of-rotation : {c r : List A} → r ∈ rotations c → (a : List A) × (b : List A) × (c ≡ a ++ b) × (r ≡ b ++ a)
   split-of-rotation m = let h = rotated-of-rotation m in (h .front, h .back, h .cut, h .joined)
 
-  pub rotation-length : (c : List A) {r : List A} → r ∈ rotations c → length r ≡ length c
-  rotation-length c m = perm-length (rotated-perm (rotated-of-rotation {c = c} m))
-
 -- The least rotation.
 
 -- the lesser of two is one of them, and is at most the other
@@ -191,22 +188,6 @@ leastRotation-same {c} {d} h =
 pub leastRotation-append : (a b : Component) → leastRotation (b ++ a) ≡ leastRotation (a ++ b)
 leastRotation-append a b = leastRotation-same (rotated-append b a)
 
--- and components with the same least rotation are rotations of each other
-pub rotated-of-same : (c d : Component) → leastRotation c ≡ leastRotation d → Rotated c d
-rotated-of-same c d e = rotated-trans (leastRotation-rotated c) (rw e (rotated-sym (leastRotation-rotated d)))
-
-pub leastRotation-twice : (c : Component) → leastRotation (leastRotation c) ≡ leastRotation c
-leastRotation-twice c = sym (leastRotation-same (leastRotation-rotated c))
-
-pub leastRotation-perm : (c : Component) → Perm (leastRotation c) c
-leastRotation-perm c = rotated-perm (leastRotation-rotated c)
-
-pub leastRotation-points : (c : Component) → points (leastRotation c) ≡ points c
-leastRotation-points c = (leastRotation-perm c) .totals size
-
-pub leastRotation-length : (c : Component) → length (leastRotation c) ≡ length c
-leastRotation-length c = perm-length (leastRotation-perm c)
-
 -- Valid components.
 
 -- what the test says: there is a tree, every tree is valid, and no cut with its parts exchanged is less
@@ -248,27 +229,3 @@ valid-leastRotation c e =
     atMost-anti compareComponent-lawful (leastRotation c) c
     (leastRotation-atMost (rotated-self c))
     (valid-rotated e (leastRotation-rotated c))
-
--- valid components that are rotations of each other are equal
-pub valid-unique : {c d : Component} → validComponent c ≡ true → validComponent d ≡ true → Rotated c d → c ≡ d
-valid-unique {c} {d} e f h = atMost-anti compareComponent-lawful c d (valid-rotated e h) (valid-rotated f (rotated-sym h))
-
--- as many points as trees come before every component of so many trees
-pub points-atMost : (n : ℕ) (d : Component) → length d ≡ n → atMost compareComponent (replicate n point) d ≡ true
-unfolding compareComponent
-points-atMost zero [] h = refl
-points-atMost zero (u ∷ d) h = absurd (omega arith)
-points-atMost (suc n) [] h = absurd (omega arith)
-points-atMost (suc n) (u ∷ d) h =
-    either (atMost-cases compareTree-lawful point u (point-least u))
-    (λ l. rw l)
-    (λ q. rw (sym q) (points-atMost n d (omega arith)))
-
--- the cycle of n points
-pub cycle-valid : (n : ℕ) → validComponent (replicate (suc n) point) ≡ true
-unfolding validTree
-cycle-valid n =
-    valid-from (replicate (suc n) point) refl
-    (each-true validTree (replicate (suc n) point) (λ t m. ap validTree (of-replicate (suc n) m)))
-    (λ a b q. points-atMost (suc n) (b ++ a)
-    (omega (arith, ap length q, length-append a b, length-append b a, length-replicate (suc n) point)))

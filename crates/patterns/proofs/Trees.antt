@@ -1,21 +1,20 @@
 -- Trees and their codes: a code determines its tree and where it ends, trees are linearly ordered, and branches determine a tree.
-use mathlib.Core.Path.{_≡_, refl, ap, ap₂, sym, _∙_}
+use mathlib.Core.Path.{_≡_, refl, ap, sym, _∙_}
 use mathlib.Core.Bool.{true, cond, _&&_}
 use mathlib.Core.List.{List, [], _∷_, _++_, append-assoc, append-nil, append-cancel-left, head-eq-of-cons-eq, List·Memᴰ·not-nil}
-use Prim.Native.Nat.{ℕ, suc, _+_, _-_, _≤_, _<_, compare, Ordering·lt}
+use Prim.Native.Nat.{ℕ, suc, _+_, _-_, _<_, compare, Ordering·lt}
 use native.Mathlib.Omega.{arith}
 use lib.Dec.{eqb}
 use borrow.Author.Tests.{ne-eqb}
 use lib.ListN.{length, length-append}
 use Rattle.lists.specs.Order.{lex, then, atMost}
 use Rattle.lists.specs.Select.{each, gather, total}
-use Rattle.lists.proofs.Tests.{_∈_, either, and-true, true-and, each-append, each-cons, each-head, no-both}
-use Rattle.lists.proofs.Comparison.{Lawful, by-order, on-lawful, compare-lt, eq-of-compare, gt-of-compare, lt-of-compare, atMost-self, atMost-trans, lt-atMost, lt-not-atMost}
+use Rattle.lists.proofs.Tests.{_∈_, either, and-true, true-and, each-append, each-cons, each-head}
+use Rattle.lists.proofs.Comparison.{Lawful, by-order, on-lawful, compare-lt, eq-of-compare, atMost-self, atMost-trans, lt-atMost}
 use Rattle.lists.proofs.Lex.{lex-lawful, lex-compare-lawful, lex-append, lex-cons-lt}
 use Rattle.lists.proofs.Members.{gather-append, in-append-cases, in-append-right, in-single, in-head}
 use Rattle.lists.proofs.Permute.{total-append}
-use Rattle.lists.proofs.Sorting.{Sorted, sorted-nil, sorted-one, sorted-append, sorted-left, sorted-across, sort-each, sort-sorted}
-use Rattle.lists.specs.Sort.{sort}
+use Rattle.lists.proofs.Sorting.{Sorted, sorted-nil, sorted-one, sorted-append, sorted-left, sorted-across}
 use Rattle.patterns.specs.Tree.{Tree, point, merge, size, below, code, branches, graftOn, graft, compareTree, lastAtMost, validTree}
 use Rattle.patterns.specs.Component.{Component, points, flat, compareComponent}
 use Rattle.patterns.specs.System.{compareSystem}
@@ -123,14 +122,6 @@ pub smaller-less : (t u : Tree) → size t < size u → compareTree t u ≡ Orde
 unfolding compareTree
 smaller-less t u h = lex-cons-lt compare (size t) (size u) (below t) (below u) (compare-lt (size t) (size u) h)
 
--- what is at most another tree has at most as many points
-pub atMost-size : (t u : Tree) → atMost compareTree t u ≡ true → size t ≤ size u
-atMost-size t u e =
-    by-order (compare (size t) (size u))
-    (λ l. let h = lt-of-compare (size t) (size u) l in omega arith)
-    (λ q. let h = eq-of-compare (size t) (size u) q in omega arith)
-    (λ g. no-both e (lt-not-atMost compareTree-lawful t u (smaller-less u t (gt-of-compare (size t) (size u) g))))
-
 pub point-less : (t u : Tree) → compareTree point (merge t u) ≡ Ordering·lt
 point-less t u = smaller-less point (merge t u) (omega (arith, size-positive t, size-positive u))
 
@@ -173,13 +164,6 @@ below-branches (merge t u) =
 pub code-branches : (t : Tree) → code t ≡ size t ∷ gather code (branches t)
 code-branches t = ap (λ l. size t ∷ l) (below-branches t)
 
--- by number of points, and among equal numbers by the branches
-pub compareTree-branches : (t u : Tree) → compareTree t u ≡ then (compare (size t) (size u)) (compareComponent (branches t) (branches u))
-unfolding compareTree
-compareTree-branches t u =
-    ap (then (compare (size t) (size u)))
-    (ap₂ (lex compare) (below-branches t) (below-branches u) ∙ sym (compareComponent-flat (branches t) (branches u)))
-
 pub size-branches : (t : Tree) → size t ≡ suc (points (branches t))
 size-branches t = sym (length-code t) ∙ ap length (code-branches t) ∙ ap suc (length-flat (branches t))
 
@@ -203,9 +187,6 @@ branches-graftOn t (u ∷ bs) = branches-graftOn (merge t u) bs ∙ append-assoc
 -- and any list of trees can be the branches
 pub branches-graft : (bs : List Tree) → branches (graft bs) ≡ bs
 branches-graft bs = branches-graftOn point bs
-
-pub branches-injective : (t u : Tree) → branches t ≡ branches u → t ≡ u
-branches-injective t u e = sym (graft-branches t) ∙ ap graft e ∙ graft-branches u
 
 pub size-graft : (bs : List Tree) → size (graft bs) ≡ suc (total size bs)
 size-graft bs = size-branches (graft bs) ∙ ap (λ l. suc (total size l)) (branches-graft bs)
@@ -260,13 +241,6 @@ valid-merge t u e =
 pub merge-valid : (t u : Tree) → validTree t ≡ true → validTree u ≡ true → lastAtMost t u ≡ true → validTree (merge t u) ≡ true
 unfolding validTree
 merge-valid t u e f h = true-and (true-and e f) h
-
--- valid trees, sorted, make a valid tree
-pub graft-valid : (bs : List Tree) → each validTree bs ≡ true → Sorted compareTree bs → validTree (graft bs) ≡ true
-graft-valid bs e s = branches-valid (graft bs) (ap (each validTree) (branches-graft bs) ∙ e) (rw (branches-graft bs) s)
-
-pub graft-sort-valid : (bs : List Tree) → each validTree bs ≡ true → validTree (graft (sort compareTree bs)) ≡ true
-graft-sort-valid bs e = graft-valid (sort compareTree bs) (sort-each compareTree validTree bs ∙ e) (sort-sorted compareTree-lawful bs)
 
 -- the two parts of a merge
 pub merge-parts : {t u t′ u′ : Tree} → merge t u ≡ merge t′ u′ → (t ≡ t′) × (u ≡ u′)

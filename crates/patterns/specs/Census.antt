@@ -5,7 +5,7 @@ use mathlib.Core.List.{List, [], _∷_, map}
 use Prim.Native.Nat.{ℕ, zero, suc}
 use lib.Dec.{leb, eqb}
 use lib.ListN.{length}
-use Rattle.lists.specs.Select.{keep, range, times}
+use Rattle.lists.specs.Select.{range, times}
 use Rattle.patterns.specs.Table.{onCycle, cycleFrom, leaders}
 
 abbrev pub greatest : List ℕ → ℕ

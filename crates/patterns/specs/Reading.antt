@@ -7,7 +7,7 @@ use lib.ListN.{length, drop}
 use Rattle.patterns.specs.declared.Refusal.{Refusal}
 use Rattle.patterns.specs.declared.Refusal.the-variants.{Count, Truncated, NumberForm, Sizes, NotCanonical, Trailing}
 use Rattle.patterns.specs.Tree.{Tree, size, graft}
-use Rattle.patterns.specs.Component.{Component, points}
+use Rattle.patterns.specs.Component.{points}
 use Rattle.patterns.specs.System.{System, weight, canonical}
 
 -- something read, or the cause of a refusal

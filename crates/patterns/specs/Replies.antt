@@ -1,7 +1,6 @@
 -- The replies of the public entries in document 01's words: document 01, "Refusing". Each running reply is an enum of src/reply.rt; a definition gives every
 -- case of it this paper's number and values, and the promises use that definition.
 use Prim.Native.Nat.{ℕ}
-use lib.ListN.{getD}
 use Rattle.patterns.specs.Census.{Row}
 use Rattle.patterns.specs.declared.Refusal.{Refusal}
 use Rattle.patterns.specs.declared.Refusal.the-variants.{Count, Image, Truncated, NumberForm, Sizes, NotCanonical, Trailing, Room, Position}

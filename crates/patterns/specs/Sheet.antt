@@ -3,7 +3,7 @@ use mathlib.Core.Path.{_≡_}
 use mathlib.Core.List.{List, [], _∷_}
 use Prim.Native.Nat.{ℕ}
 use Rattle.patterns.specs.Isomorphism.{isomorphisms}
-use Rattle.patterns.specs.Replies.{Answer, refused}
+use Rattle.patterns.specs.Replies.{refused}
 use Rattle.patterns.specs.Entry.{gives, ends, acceptOf, codeOfMap, successorOf}
 
 pub data Example : Type 0 where

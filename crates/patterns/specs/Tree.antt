@@ -1,5 +1,5 @@
 -- Trees and their codes: document 004, Definitions 1, 3 and 7; document 01, "Trees, components, systems".
-use mathlib.Core.Bool.{Bool, true, cond, _&&_}
+use mathlib.Core.Bool.{Bool, true, _&&_}
 use mathlib.Core.List.{List, [], _∷_, _++_}
 use Prim.Native.Nat.{ℕ, _+_, Ordering, compare}
 use Rattle.lists.specs.Order.{lex, atMost}

@@ -11,8 +11,7 @@ use Rattle.lists.specs.Order.{atMost}
 use Rattle.lists.specs.Select.{next}
 use Rattle.lists.proofs.Tests.{by-test}
 use Rattle.lists.proofs.Permute.{total-map}
-use Rattle.lists.proofs.Members.{lawful-decides, in-list, in-head}
-use Rattle.lists.proofs.Rising.{rising-head, rising-right}
+use Rattle.lists.proofs.Members.{lawful-decides, in-list}
 use Rattle.lists.proofs.Follow.{Within, in-within, within-head, within-from, within-next, within-unique, within-some, within-last, within-map, within-gather, within-some-in}
 use Rattle.patterns.specs.Component.{Component, points, compareComponent, validComponent}
 use Rattle.patterns.specs.Generation.{generation}
@@ -75,12 +74,6 @@ bump-keeps S R e f =
 
 pub step-keeps : (S R : System) → canonical S ≡ true → step S ≡ some R → (canonical R ≡ true) × (weight R ≡ weight S)
 step-keeps S R e f = codes-sound (weight S) R (within-some-in (rw f at (step-within S e)))
-
--- the step goes to a greater system
-pub step-greater : (S R : System) → canonical S ≡ true → step S ≡ some R → compareCodes S R ≡ Ordering·lt
-step-greater S R e f =
-    let c = within-some (rw f at (step-within S e)) in
-    rising-head (rising-right (c .0) (S ∷ R ∷ c .1) (rw (c .2) at (codes-rise (weight S)))) in-head
 
 -- and to the least one: whatever is greater than S is that or greater than that
 pub step-least : (S R T : System) → canonical S ≡ true → step S ≡ some R → canonical T ≡ true → weight T ≡ weight S → compareCodes S T ≡ Ordering·lt

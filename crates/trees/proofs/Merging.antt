@@ -1,4 +1,4 @@
--- Two neighbouring trees behind i points, in numbers: where they stand, and what their merges are.
+-- Two neighbouring trees behind i points, in memory: where they stand, and what their merges are.
 use mathlib.Core.Path.{_≡_, refl, ap, ap₂, sym, _∙_}
 use mathlib.Core.List.{List, _∷_, _++_, append-assoc}
 use Prim.Native.Nat.{ℕ, _+_, _-_, _≤_, _<_, compare}
@@ -113,7 +113,7 @@ last-branch-atMost point t = refl
 last-branch-atMost (merge x v) t =
     ap (λ l. atMost (lex compare) l (code t)) (drop-at ((size x + size v) ∷ below x) (code v) (size x) (length-below x))
 
--- the two trees of a pair have points, and stand within the numbers
+-- the two trees of a pair have points, and stand within the bytes
 pub record Reach (s : List ℕ) (i : ℕ) (out : List ℕ) : Type 0 where
   pub this-some : 0 < getD s i 0
   pub that-some : 0 < getD s (i + getD s i 0) 0

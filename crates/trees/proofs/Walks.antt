@@ -1,4 +1,4 @@
--- Walking through numbers tree by tree: along the trees of a component, and inside a tree along its branches. Each walk is a record of what stands
+-- Walking through bytes tree by tree: along the trees of a component, and inside a tree along its branches. Each walk is a record of what stands
 -- behind and what stands ahead, with laws for its start, a step, and its end.
 use mathlib.Core.Path.{_≡_, refl, ap, sym, _∙_, subst}
 use mathlib.Core.Bool.{true, false}
@@ -17,7 +17,7 @@ use Rattle.patterns.proofs.Trees.{size-positive, length-below, length-code, len
 use Rattle.memory.specs.Memory.{Held, HeldTree}
 use Rattle.trees.specs.Beginnings.{lastStart, leadingPoints}
 
--- the tree that begins at a place: its size is the number there, and its code the stretch of so many numbers
+-- the tree that begins at a place: its size is the number there, and its code the stretch of so many bytes
 pub record Next (s : List ℕ) (at : ℕ) (rest : Component) : Type 0 where
   pub tree : Tree
   pub later : Component
@@ -52,7 +52,7 @@ pub flat-points : (i : ℕ) (c : Component) → flat (replicate i point ++ c) �
 flat-points zero c = refl
 flat-points (suc i) c = ap (λ l. 1 ∷ l) (flat-points i c)
 
--- no numbers, no trees
+-- no bytes, no trees
 pub no-trees : (c : Component) → points c ≡ 0 → c ≡ []
 no-trees [] h = refl
 no-trees (t ∷ c) h = absurd (omega (arith, size-positive t))

@@ -10,7 +10,7 @@ use Rattle.patterns.specs.Component.{Component, flat}
 abbrev pub behind : ℕ → Component → Component
 behind i c = replicate i point ++ c
 
--- a component of at most 200 points whose first i trees are points and that has two trees more, and a buffer of as many numbers
+-- a component of at most 200 points whose first i trees are points and that has two trees more, and a buffer of as many bytes
 pub record HeldNeighbours (s : List ℕ) (i : ℕ) (out : List ℕ) : Type 0 where
   pub this : Tree
   pub that : Tree

@@ -26,7 +26,7 @@ H c = c .before .leading .result
 led : (c : tie.Else1) (d : Component) → S c ≡ flat d → Led d (H c)
 led c d e = led-at (S c) (H c) d e (c .before .leading .ensures d e) (omega arith)
 
--- its last branch begins B numbers further
+-- its last branch begins B bytes further
 abbrev tree : tie.After-last-branch → tie.Else1
 tree c = c .before .before .before .before
 
