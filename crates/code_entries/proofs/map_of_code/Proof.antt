@@ -22,7 +22,7 @@ code c = now (start c .args .code)
 -- the code was accepted, and memory holds its system
 taken : (c : tie.After-known-told2)
     → let k = accepting (c .before .before .before) in
-      Taken (code k) (k .accept-into .last .1 .0) (k .accept-into .last .1 .1 .0) (c .before .m .given .0 .0) (c .before .m .given .0 .1 .0)
+    Taken (code k) (k .accept-into .last .1 .0) (k .accept-into .last .1 .1 .0) (c .before .m .given .0 .0) (c .before .m .given .0 .1 .0)
 taken c =
     let k = accepting (c .before .before .before) in
     let told = c .before .m .given in
