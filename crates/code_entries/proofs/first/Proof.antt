@@ -7,25 +7,17 @@ use borrow.Author.Needs.{needs}
 use Rattle.code_entries.proofs.first.Statement.{statement}
 use Rattle.code_entries.proofs.first.Tie as tie
 
+-- room was made for the sizes
+abbrev room : tie.After-put-first → tie.After-points-room
+room c = c .before .before .before .before .before
+
 returns : tie.Need-returns
 returns c =
     let a = c .before .before .args in
     first-refused (a .n) (now (a .out)) (c .if1 .taken)
 
-points-room-requires : tie.Need-points-room-requires
-points-room-requires c κs = search needs
-
-points-room-requires-2 : tie.Need-points-room-requires-2
-points-room-requires-2 c κs = search needs
-
-array-borrow-prefix-sizes : tie.Need-array-borrow-prefix-sizes
-array-borrow-prefix-sizes c = search needs
-
 slice-aggregate-put-first : tie.Need-slice-aggregate-put-first
 slice-aggregate-put-first c = rw length-take (omega arith)
-
-array-borrow-prefix-trees : tie.Need-array-borrow-prefix-trees
-array-borrow-prefix-trees c = search needs
 
 slice-aggregate-put-first-2 : tie.Need-slice-aggregate-put-first-2
 slice-aggregate-put-first-2 c = rw length-take (omega arith)
@@ -33,25 +25,23 @@ slice-aggregate-put-first-2 c = rw length-take (omega arith)
 put-first-requires : tie.Need-put-first-requires
 put-first-requires c κs = (simp length-take (omega arith), simp length-take (omega arith))
 
-same-length : tie.Need-same-length
-same-length c = search needs
-
 returns-2 : tie.Need-returns-2
 returns-2 c =
-    let a = c .before .before .before .before .before .before .before .before .before .before .before .before .args in
-    rw (length-take-le (a .n) (c .before .before .before .before .before .before .before .before .before .points-room .result) (omega arith)) at (c .before .before .before .before .put-first .ensures)
+    let put = c .before .before .before .before in
+    let a = room put .before .before .before .args in
+    rw (length-take-le (a .n) (room put .points-room .result) (omega arith)) at (put .put-first .ensures)
 
 pub first-spec : {M : Type 1} → statement M
 first-spec =
     tie.close
     (tie.spec
     returns
-    points-room-requires
-    points-room-requires-2
-    array-borrow-prefix-sizes
+    (λ c κs. search needs)
+    (λ c κs. search needs)
+    (λ c. search needs)
     slice-aggregate-put-first
-    array-borrow-prefix-trees
+    (λ c. search needs)
     slice-aggregate-put-first-2
     put-first-requires
-    same-length
+    (λ c. search needs)
     returns-2)

@@ -1,90 +1,73 @@
 use denote.Ref.{now}
 use mathlib.Core.Path.{sym}
+use mathlib.Core.List.{List}
+use Prim.Native.Nat.{ℕ}
 use lib.Seq.{length-take-le}
-use Rattle.acceptance.proofs.Taken.{code-taken, code-refused, taken-held, taken-count, taken-points}
+use Rattle.acceptance.proofs.Taken.{Taken, code-taken, code-refused, taken-held, taken-count, taken-points}
 use Rattle.code_entries.proofs.MapsPut.{map-of-refused, map-of-put}
 use borrow.Author.Needs.{needs}
 use Rattle.code_entries.proofs.map_of_code.Statement.{statement}
 use Rattle.code_entries.proofs.map_of_code.Tie as tie
 
-points-room-requires : tie.Need-points-room-requires
-points-room-requires c κs = search needs
+-- the places that the needs speak of, each named once
+abbrev start : tie.After-accept-into → tie.Start
+start c = c .before .before .before .before .before .before .before
 
-points-room-requires-2 : tie.Need-points-room-requires-2
-points-room-requires-2 c κs = search needs
+abbrev accepting : tie.After-trees2 → tie.After-accept-into
+accepting c = c .before .before
 
-slice-aggregate-accept-into : tie.Need-slice-aggregate-accept-into
-slice-aggregate-accept-into c = search needs
+abbrev code : tie.After-accept-into → List ℕ
+code c = now (start c .args .code)
 
-slice-aggregate-accept-into-2 : tie.Need-slice-aggregate-accept-into-2
-slice-aggregate-accept-into-2 c = search needs
-
-accept-into-requires : tie.Need-accept-into-requires
-accept-into-requires c κs = search needs
-
-enum-known-cause : tie.Need-enum-known-cause
-enum-known-cause c = search needs
-
-enum-known-m : tie.Need-enum-known-m
-enum-known-m c = search needs
+-- the code was accepted, and memory holds its system
+taken : (c : tie.After-known-told2)
+    → let k = accepting (c .before .before .before) in
+    Taken (code k) (k .accept-into .last .1 .0) (k .accept-into .last .1 .1 .0) (c .before .m .given .0 .0) (c .before .m .given .0 .1 .0)
+taken c =
+    let k = accepting (c .before .before .before) in
+    let told = c .before .m .given in
+    code-taken (code k) (k .accept-into .ensures) (told .0 .0) (told .0 .1 .0) (told .1)
 
 array-share-prefix-sizes : tie.Need-array-share-prefix-sizes
-array-share-prefix-sizes c =
-    let given = c .before .m .given in
-    taken-count (code-taken (now (c .before .before .before .before .before .before .before .before .before .before .before .before .args .code)) (c .before .before .before .before .before .accept-into .ensures) (given .0 .0) (given .0 .1 .0) (given .1))
+array-share-prefix-sizes c = taken-count (taken c)
 
 slice-aggregate-put-map : tie.Need-slice-aggregate-put-map
-slice-aggregate-put-map c =
-    let given = c .before .before .m .given in
-    let taken = code-taken (now (c .before .before .before .before .before .before .before .before .before .before .before .before .before .args .code)) (c .before .before .before .before .before .before .accept-into .ensures) (given .0 .0) (given .0 .1 .0) (given .1) in
-    sym (length-take-le _ _ (taken-count taken))
+slice-aggregate-put-map c = sym (length-take-le _ _ (taken-count (taken (c .before))))
 
 array-share-prefix-trees : tie.Need-array-share-prefix-trees
-array-share-prefix-trees c =
-    let given = c .before .before .m .given in
-    taken-points (code-taken (now (c .before .before .before .before .before .before .before .before .before .before .before .before .before .args .code)) (c .before .before .before .before .before .before .accept-into .ensures) (given .0 .0) (given .0 .1 .0) (given .1))
+array-share-prefix-trees c = taken-points (taken (c .before))
 
 slice-aggregate-put-map-2 : tie.Need-slice-aggregate-put-map-2
-slice-aggregate-put-map-2 c =
-    let given = c .before .before .before .m .given in
-    let taken = code-taken (now (c .before .before .before .before .before .before .before .before .before .before .before .before .before .before .args .code)) (c .before .before .before .before .before .before .before .accept-into .ensures) (given .0 .0) (given .0 .1 .0) (given .1) in
-    sym (length-take-le _ _ (taken-points taken))
+slice-aggregate-put-map-2 c = sym (length-take-le _ _ (taken-points (taken (c .before .before))))
 
 put-map-requires : tie.Need-put-map-requires
-put-map-requires c κs =
-    let given = c .before .before .before .before .m .given in
-    taken-held (code-taken (now (c .before .before .before .before .before .before .before .before .before .before .before .before .before .before .before .args .code)) (c .before .before .before .before .before .before .before .before .accept-into .ensures) (given .0 .0) (given .0 .1 .0) (given .1))
+put-map-requires c κs = taken-held (taken (c .before .before .before))
 
 returns : tie.Need-returns
 returns c =
-    let given = c .before .cause .given in
-    let a = c .before .before .before .before .before .before .before .before .before .before .before .before .args in
-    map-of-refused (now (a .code)) (now (a .out)) (given .0 .0) (code-refused (now (a .code)) (c .before .before .before .before .before .accept-into .ensures) (given .0 .0) (given .1))
-
-same-length : tie.Need-same-length
-same-length c = search needs
+    let k = accepting (c .before .before .before) in
+    let told = c .before .cause .given in
+    map-of-refused (code k) (now (start k .args .out)) (told .0 .0) (code-refused (code k) (k .accept-into .ensures) (told .0 .0) (told .1))
 
 returns-2 : tie.Need-returns-2
-returns-2 c =
-    let given = c .before .before .before .before .before .before .before .m .given in
-    map-of-put (code-taken (now (c .before .before .before .before .before .before .before .before .before .before .before .before .before .before .before .before .before .before .args .code)) (c .before .before .before .before .before .before .before .before .before .before .before .accept-into .ensures) (given .0 .0) (given .0 .1 .0) (given .1)) (c .before .before .put-map .ensures)
+returns-2 c = map-of-put (taken (c .before .before .before .before .before .before)) (c .before .before .put-map .ensures)
 
 pub map-of-code-spec : {M : Type 1} → statement M
 map-of-code-spec =
     tie.close
     (tie.spec
-    points-room-requires
-    points-room-requires-2
-    slice-aggregate-accept-into
-    slice-aggregate-accept-into-2
-    accept-into-requires
-    enum-known-cause
-    enum-known-m
+    (λ c κs. search needs)
+    (λ c κs. search needs)
+    (λ c. search needs)
+    (λ c. search needs)
+    (λ c κs. search needs)
+    (λ c. search needs)
+    (λ c. search needs)
     array-share-prefix-sizes
     slice-aggregate-put-map
     array-share-prefix-trees
     slice-aggregate-put-map-2
     put-map-requires
     returns
-    same-length
+    (λ c. search needs)
     returns-2)

@@ -1,82 +1,68 @@
 use denote.Ref.{now}
+use mathlib.Core.List.{List}
+use Prim.Native.Nat.{ℕ}
 use native.Mathlib.Omega.{arith}
 use lib.ListN.{length-take}
-use Rattle.acceptance.proofs.Taken.{code-taken, code-refused, taken-points}
+use Rattle.acceptance.proofs.Taken.{Taken, code-taken, code-refused, taken-points}
 use Rattle.code_entries.proofs.CodesPut.{taken-next, successor-refused, successor-put}
 use borrow.Author.Needs.{needs}
 use Rattle.code_entries.proofs.successor.Statement.{statement}
 use Rattle.code_entries.proofs.successor.Tie as tie
 
-points-room-requires : tie.Need-points-room-requires
-points-room-requires c κs = search needs
+-- the places that the needs speak of, each named once
+abbrev start : tie.After-accept-into → tie.Start
+start c = c .before .before .before .before .before .before .before
 
-points-room-requires-2 : tie.Need-points-room-requires-2
-points-room-requires-2 c κs = search needs
+abbrev accepting : tie.After-trees2 → tie.After-accept-into
+accepting c = c .before .before
 
-slice-aggregate-accept-into : tie.Need-slice-aggregate-accept-into
-slice-aggregate-accept-into c = search needs
+abbrev code : tie.After-accept-into → List ℕ
+code c = now (start c .args .code)
 
-slice-aggregate-accept-into-2 : tie.Need-slice-aggregate-accept-into-2
-slice-aggregate-accept-into-2 c = search needs
-
-accept-into-requires : tie.Need-accept-into-requires
-accept-into-requires c κs = search needs
-
-enum-known-cause : tie.Need-enum-known-cause
-enum-known-cause c = search needs
-
-enum-known-m : tie.Need-enum-known-m
-enum-known-m c = search needs
-
-slice-aggregate-put-next : tie.Need-slice-aggregate-put-next
-slice-aggregate-put-next c = search needs
+-- the code was accepted, and memory holds its system
+taken : (c : tie.After-known-told2)
+    → let k = accepting (c .before .before .before) in
+    Taken (code k) (k .accept-into .last .1 .0) (k .accept-into .last .1 .1 .0) (c .before .m .given .0 .0) (c .before .m .given .0 .1 .0)
+taken c =
+    let k = accepting (c .before .before .before) in
+    let told = c .before .m .given in
+    code-taken (code k) (k .accept-into .ensures) (told .0 .0) (told .0 .1 .0) (told .1)
 
 array-borrow-prefix-trees : tie.Need-array-borrow-prefix-trees
-array-borrow-prefix-trees c =
-    let given = c .before .before .m .given in
-    taken-points (code-taken (now (c .before .before .before .before .before .before .before .before .before .before .before .before .before .args .code)) (c .before .before .before .before .before .before .accept-into .ensures) (given .0 .0) (given .0 .1 .0) (given .1))
+array-borrow-prefix-trees c = taken-points (taken (c .before))
 
 slice-aggregate-put-next-2 : tie.Need-slice-aggregate-put-next-2
-slice-aggregate-put-next-2 c =
-    let given = c .before .before .before .m .given in
-    let fits = taken-points (code-taken (now (c .before .before .before .before .before .before .before .before .before .before .before .before .before .before .args .code)) (c .before .before .before .before .before .before .before .accept-into .ensures) (given .0 .0) (given .0 .1 .0) (given .1)) in
-    rw length-take (omega arith)
+slice-aggregate-put-next-2 c = let fits = taken-points (taken (c .before .before)) in rw length-take (omega arith)
 
 put-next-requires : tie.Need-put-next-requires
-put-next-requires c κs =
-    let given = c .before .before .before .before .m .given in
-    let taken = code-taken (now (c .before .before .before .before .before .before .before .before .before .before .before .before .before .before .before .args .code)) (c .before .before .before .before .before .before .before .before .accept-into .ensures) (given .0 .0) (given .0 .1 .0) (given .1) in
-    taken-next taken (omega arith) (omega arith)
+put-next-requires c κs = taken-next (taken (c .before .before .before)) (omega arith) (omega arith)
 
 returns : tie.Need-returns
 returns c =
-    let given = c .before .cause .given in
-    let a = c .before .before .before .before .before .before .before .before .before .before .before .before .args in
-    successor-refused (now (a .code)) (now (a .out)) (given .0 .0) (code-refused (now (a .code)) (c .before .before .before .before .before .accept-into .ensures) (given .0 .0) (given .1))
-
-same-length : tie.Need-same-length
-same-length c = search needs
+    let k = accepting (c .before .before .before) in
+    let told = c .before .cause .given in
+    successor-refused (code k) (now (start k .args .out)) (told .0 .0) (code-refused (code k) (k .accept-into .ensures) (told .0 .0) (told .1))
 
 returns-2 : tie.Need-returns-2
 returns-2 c =
-    let given = c .before .before .before .before .before .before .before .before .before .m .given in
-    successor-put (code-taken (now (c .before .before .before .before .before .before .before .before .before .before .before .before .before .before .before .before .before .before .before .before .args .code)) (c .before .before .before .before .before .before .before .before .before .before .before .before .before .accept-into .ensures) (given .0 .0) (given .0 .1 .0) (given .1)) (c .before .before .before .before .put-next .ensures)
+    let k = c .before .before .before .before in
+    successor-put (taken (k .before .before .before .before)) (k .put-next .ensures)
 
 pub successor-spec : {M : Type 1} → statement M
 successor-spec =
     tie.close
     (tie.spec
-    points-room-requires
-    points-room-requires-2
-    slice-aggregate-accept-into
-    slice-aggregate-accept-into-2
-    accept-into-requires
-    enum-known-cause
-    enum-known-m
-    slice-aggregate-put-next
+    (λ c κs. search needs)
+    (λ c κs. search needs)
+    (λ c. search needs)
+    (λ c. search needs)
+    (λ c κs. search needs)
+    (λ c. search needs)
+    (λ c. search needs)
+    (λ c. search needs)
     array-borrow-prefix-trees
     slice-aggregate-put-next-2
     put-next-requires
     returns
-    same-length
+    (λ c. search needs)
     returns-2)
