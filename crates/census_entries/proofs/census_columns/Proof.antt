@@ -1,44 +1,42 @@
 use denote.Ref.{now}
 use mathlib.Core.Path.{subst}
+use Prim.Native.Nat.{min}
+use lib.ListN.{length}
 use borrow.Author.Needs.{needs}
 use Rattle.census_entries.specs.Decisions.{Decided}
 use Rattle.census_entries.proofs.Columns.{columns-fit, columns-replied}
 use Rattle.census_entries.proofs.census_columns.Statement.{statement}
 use Rattle.census_entries.proofs.census_columns.Tie as tie
 
-lesser-requires : tie.Need-lesser-requires
-lesser-requires c κs = search needs
+-- the places that the needs speak of, each named once
+abbrev start : tie.After-decide → tie.Start
+start c = c .before .before .before .before .before
 
-decide-requires : tie.Need-decide-requires
-decide-requires c κs = search needs
+abbrev put : tie.After-slice-known4 → tie.After-put-columns
+put c = c .before .before .before .before
+
+-- decided for as many places as the shorter column has
+decided : (c : tie.After-decide)
+    → Decided (now (start c .args .table)) (min (length (now (start c .args .lengths))) (length (now (start c .args .counts)))) (c .decide .result)
+decided c = subst (λ places. Decided (now (start c .args .table)) places (c .decide .result)) (c .before .lesser .ensures) (c .decide .ensures)
 
 put-columns-requires : tie.Need-put-columns-requires
 put-columns-requires c κs =
-    let a = c .before .before .before .before .before .before .before .args in
-    columns-fit (now (a .lengths)) (now (a .counts))
-    (subst (λ places. Decided (now (a .table)) places (c .before .before .decide .result)) (c .before .before .before .lesser .ensures) (c .before .before .decide .ensures))
-
-same-length : tie.Need-same-length
-same-length c = search needs
-
-same-length-2 : tie.Need-same-length-2
-same-length-2 c = search needs
+    let d = c .before .before in
+    columns-fit (now (start d .args .lengths)) (now (start d .args .counts)) (decided d)
 
 returns : tie.Need-returns
 returns c =
-    let a = c .before .before .before .before .before .before .before .before .before .before .before .before .args in
-    let d = c .before .before .before .before .before .before .before .decide in
-    columns-replied (now (a .lengths)) (now (a .counts))
-    (subst (λ places. Decided (now (a .table)) places (d .result)) (c .before .before .before .before .before .before .before .before .lesser .ensures) (d .ensures))
-    (search needs) (search needs) (c .before .before .before .before .put-columns .ensures)
+    let d = put c .before .before .before in
+    columns-replied (now (start d .args .lengths)) (now (start d .args .counts)) (decided d) (search needs) (search needs) (put c .put-columns .ensures)
 
 pub census-columns-spec : {M : Type 1} → statement M
 census-columns-spec =
     tie.close
     (tie.spec
-    lesser-requires
-    decide-requires
+    (λ c κs. search needs)
+    (λ c κs. search needs)
     put-columns-requires
-    same-length
-    same-length-2
+    (λ c. search needs)
+    (λ c. search needs)
     returns)

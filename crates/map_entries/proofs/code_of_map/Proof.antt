@@ -5,43 +5,42 @@ use borrow.Author.Needs.{needs}
 use Rattle.map_entries.proofs.code_of_map.Statement.{statement}
 use Rattle.map_entries.proofs.code_of_map.Tie as tie
 
-check-table-requires : tie.Need-check-table-requires
-check-table-requires c κs = search needs
+-- the places that the needs speak of, each named once
+abbrev start : tie.After-check-table → tie.Start
+start c = c .before .before .before
 
-enum-told : tie.Need-enum-told
-enum-told c = search needs
-
-enum-told-2 : tie.Need-enum-told-2
-enum-told-2 c = search needs
+abbrev told : tie.After-slice-known2 → tie.After-enum-told
+told c = c .before .before .before .before
 
 returns : tie.Need-returns
 returns c =
-    let told = c .enum-told2 .given in
-    let a = c .before .before .before .before .before .args in
-    rw (told .1) (map-refused (now (a .table)) (told .0 .0) (table-refused (now (a .table)) (c .before .before .check-table .ensures) (told .0 .0) (told .1)) (now (a .out)))
+    let k = c .before .before in
+    let a = start k .args in
+    let refused = c .enum-told2 .given in
+    rw (refused .1)
+    (map-refused (now (a .table)) (refused .0 .0) (table-refused (now (a .table)) (k .check-table .ensures) (refused .0 .0) (refused .1)) (now (a .out)))
 
 put-code-requires : tie.Need-put-code-requires
 put-code-requires c κs =
-    let told = c .before .enum-told .given in
-    (table-checked (now (c .before .before .before .before .before .before .args .table)) (c .before .before .before .check-table .ensures) (told .0 .0) (told .1)) .2
-
-same-length : tie.Need-same-length
-same-length c = search needs
+    let k = c .before .before .before in
+    let given = c .before .enum-told .given in
+    (table-checked (now (start k .args .table)) (k .check-table .ensures) (given .0 .0) (given .1)) .2
 
 returns-2 : tie.Need-returns-2
 returns-2 c =
-    let told = c .before .before .before .before .enum-told .given in
-    let f = now (c .before .before .before .before .before .before .before .before .before .args .table) in
-    map-coded f ((table-checked f (c .before .before .before .before .before .before .check-table .ensures) (told .0 .0) (told .1)) .0) (c .before .before .put-code .ensures)
+    let t = told c in
+    let k = t .before .before in
+    let f = now (start k .args .table) in
+    map-coded f ((table-checked f (k .check-table .ensures) (t .enum-told .given .0 .0) (t .enum-told .given .1)) .0) (c .before .before .put-code .ensures)
 
 pub code-of-map-spec : {M : Type 1} → statement M
 code-of-map-spec =
     tie.close
     (tie.spec
-    check-table-requires
-    enum-told
-    enum-told-2
+    (λ c κs. search needs)
+    (λ c. search needs)
+    (λ c. search needs)
     returns
     put-code-requires
-    same-length
+    (λ c. search needs)
     returns-2)

@@ -5,40 +5,31 @@ use borrow.Author.Needs.{needs}
 use Rattle.map_entries.proofs.isomorphism.Statement.{statement}
 use Rattle.map_entries.proofs.isomorphism.Tie as tie
 
-check-table-requires : tie.Need-check-table-requires
-check-table-requires c κs = search needs
-
-enum-known-cause : tie.Need-enum-known-cause
-enum-known-cause c = search needs
-
-enum-told : tie.Need-enum-told
-enum-told c = search needs
+-- the place that the needs speak of, named once
+abbrev start : tie.After-check-table → tie.Start
+start c = c .before .before .before .before
 
 isomorphism-to-requires : tie.Need-isomorphism-to-requires
 isomorphism-to-requires c κs =
+    let k = c .before .before .before in
     let told = c .before .enum-told .given in
-    (table-checked (now (c .before .before .before .before .before .before .before .args .f)) (c .before .before .before .check-table .ensures) (told .0 .0) (told .1)) .2
+    (table-checked (now (start k .args .f)) (k .check-table .ensures) (told .0 .0) (told .1)) .2
 
 returns : tie.Need-returns
 returns c =
+    let k = c .before .before .before in
+    let a = start k .args in
     let given = c .before .cause .given in
-    let a = c .before .before .before .before .before .before .before .args in
-    first-bad (now (a .f)) (now (a .g)) (now (a .out)) (given .0 .0) (table-refused (now (a .f)) (c .before .before .before .check-table .ensures) (given .0 .0) (given .1))
-
-same-length : tie.Need-same-length
-same-length c = search needs
-
-returns-2 : tie.Need-returns-2
-returns-2 c = search needs
+    first-bad (now (a .f)) (now (a .g)) (now (a .out)) (given .0 .0) (table-refused (now (a .f)) (k .check-table .ensures) (given .0 .0) (given .1))
 
 pub isomorphism-spec : {M : Type 1} → statement M
 isomorphism-spec =
     tie.close
     (tie.spec
-    check-table-requires
-    enum-known-cause
-    enum-told
+    (λ c κs. search needs)
+    (λ c. search needs)
+    (λ c. search needs)
     isomorphism-to-requires
     returns
-    same-length
-    returns-2)
+    (λ c. search needs)
+    (λ c. search needs))

@@ -1,55 +1,56 @@
 use denote.Ref.{now}
-use mathlib.Core.Path.{sym, _∙_}
+use mathlib.Core.Path.{_≡_, sym, _∙_}
+use lib.ListN.{length}
+use Rattle.tables.specs.Tables.{Table}
 use Rattle.tables.proofs.Tables.{table-refused, table-checked}
 use Rattle.map_entries.proofs.Compared.{second-bad, lengths-bad}
 use borrow.Author.Needs.{needs}
 use Rattle.map_entries.proofs.isomorphism_to.Statement.{statement}
 use Rattle.map_entries.proofs.isomorphism_to.Tie as tie
 
-check-table-requires : tie.Need-check-table-requires
-check-table-requires c κs = search needs
+-- the places that the needs speak of, each named once
+abbrev start : tie.After-check-table → tie.Start
+start c = c .before .before .before .before
 
-enum-known-cause : tie.Need-enum-known-cause
-enum-known-cause c = search needs
+abbrev entry : tie.After-known-told2 → tie.Start
+entry c = start (c .before .before .before)
 
-enum-known-n : tie.Need-enum-known-n
-enum-known-n c = search needs
+-- the second table is one, of as many points as the test says
+checked : (c : tie.After-known-told2) → (length (now (entry c .args .g)) ≡ c .before .n .given .0 .0) × Table (now (entry c .args .g))
+checked c =
+    let given = c .before .n .given in
+    let k = c .before .before .before in
+    let t = table-checked (now (start k .args .g)) (k .check-table .ensures) (given .0 .0) (given .1) in
+    (t .1, t .2)
 
 returns : tie.Need-returns
 returns c =
-    let given = c .before .before .n .given in
-    let start = c .before .before .before .before .before .before .before .before in
-    let checked = table-checked (now (start .args .g)) (c .before .before .before .before .check-table .ensures) (given .0 .0) (given .1) in
-    lengths-bad (now (start .args .f)) (now (start .args .g)) (now (start .args .out)) (start .pre) (checked .2) (λ e. c .if1 .taken (e ∙ checked .1))
+    let k = checked (c .before) in
+    let s = entry (c .before) in
+    lengths-bad (now (s .args .f)) (now (s .args .g)) (now (s .args .out)) (s .pre) (k .1) (λ e. c .if1 .taken (e ∙ k .0))
 
 put-isomorphism-requires : tie.Need-put-isomorphism-requires
 put-isomorphism-requires c κs =
-    let given = c .before .before .before .n .given in
-    let start = c .before .before .before .before .before .before .before .before .before in
-    let checked = table-checked (now (start .args .g)) (c .before .before .before .before .before .check-table .ensures) (given .0 .0) (given .1) in
-    record { first = start .pre; second = checked .2; same = checked .1 ∙ sym (c .before .if1 .left) }
+    let k = checked (c .before .before) in
+    record { first = entry (c .before .before) .pre; second = k .1; same = k .0 ∙ sym (c .before .if1 .left) }
 
 returns-2 : tie.Need-returns-2
 returns-2 c =
+    let k = c .before .before .before in
+    let s = start k in
     let given = c .before .cause .given in
-    let start = c .before .before .before .before .before .before .before in
-    second-bad (now (start .args .f)) (now (start .args .g)) (now (start .args .out)) (start .pre) (given .0 .0) (table-refused (now (start .args .g)) (c .before .before .before .check-table .ensures) (given .0 .0) (given .1))
-
-same-length : tie.Need-same-length
-same-length c = search needs
-
-returns-3 : tie.Need-returns-3
-returns-3 c = search needs
+    second-bad (now (s .args .f)) (now (s .args .g)) (now (s .args .out)) (s .pre) (given .0 .0)
+    (table-refused (now (s .args .g)) (k .check-table .ensures) (given .0 .0) (given .1))
 
 pub isomorphism-to-spec : {M : Type 1} → statement M
 isomorphism-to-spec =
     tie.close
     (tie.spec
-    check-table-requires
-    enum-known-cause
-    enum-known-n
+    (λ c κs. search needs)
+    (λ c. search needs)
+    (λ c. search needs)
     returns
     put-isomorphism-requires
     returns-2
-    same-length
-    returns-3)
+    (λ c. search needs)
+    (λ c. search needs))

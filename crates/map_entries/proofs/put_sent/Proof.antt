@@ -7,56 +7,43 @@ use borrow.Author.Needs.{needs}
 use Rattle.map_entries.proofs.put_sent.Statement.{statement}
 use Rattle.map_entries.proofs.put_sent.Tie as tie
 
-points-room-requires : tie.Need-points-room-requires
-points-room-requires c κs = search needs
+-- the places that the needs speak of, each named once
+abbrev start : tie.After-points-room → tie.Start
+start c = c .before .before .before .before
 
-array-borrow-prefix-table : tie.Need-array-borrow-prefix-table
-array-borrow-prefix-table c = search needs
+abbrev sent : tie.After-put → tie.After-send
+sent c = c .before .before .before .before
 
 slice-aggregate-send : tie.Need-slice-aggregate-send
-slice-aggregate-send c =
-    let matched = c .before .before .before .before .before .pre in
-    rw length-take (omega arith)
+slice-aggregate-send c = let matched = start (c .before) .pre in rw length-take (omega arith)
 
 send-requires : tie.Need-send-requires
-send-requires c κs =
-    let matched = c .before .before .before .before .before .pre in
-    (matched, simp length-take (omega arith))
+send-requires c κs = let matched = start (c .before) .pre in (matched, simp length-take (omega arith))
 
 array-share-prefix-table : tie.Need-array-share-prefix-table
-array-share-prefix-table c =
-    let sent = c .before .send .ensures in
-    simp length-append (omega arith)
+array-share-prefix-table c = let placed = c .before .send .ensures in simp length-append (omega arith)
 
 slice-aggregate-put : tie.Need-slice-aggregate-put
-slice-aggregate-put c =
-    let sent = c .before .before .send .ensures in
-    simp (length-take, length-append) (omega arith)
-
-put-requires : tie.Need-put-requires
-put-requires c κs = search needs
-
-as-isomorphism-requires : tie.Need-as-isomorphism-requires
-as-isomorphism-requires c κs = search needs
-
-same-length : tie.Need-same-length
-same-length c = search needs
+slice-aggregate-put c = let placed = c .before .before .send .ensures in simp (length-take, length-append) (omega arith)
 
 returns : tie.Need-returns
 returns c =
-    rw (c .as-isomorphism .ensures) (sends-put _ (length (now (c .before .before .before .before .before .before .before .before .before .before .before .before .before .args .a))) refl (c .before .before .before .before .before .before .before .send .ensures) (c .before .before .before .put .ensures))
+    let p = c .before .before .before in
+    let s = sent p in
+    rw (c .as-isomorphism .ensures)
+    (sends-put _ (length (now (start (s .before .before) .args .a))) refl (s .send .ensures) (p .put .ensures))
 
 pub put-sent-spec : {M : Type 1} → statement M
 put-sent-spec =
     tie.close
     (tie.spec
-    points-room-requires
-    array-borrow-prefix-table
+    (λ c κs. search needs)
+    (λ c. search needs)
     slice-aggregate-send
     send-requires
     array-share-prefix-table
     slice-aggregate-put
-    put-requires
-    as-isomorphism-requires
-    same-length
+    (λ c κs. search needs)
+    (λ c κs. search needs)
+    (λ c. search needs)
     returns)
