@@ -78,5 +78,4 @@ module _ {before after : List ℕ} where
   never-refused [] c f p = clash (cc (p .reply))
   never-refused (S ∷ r) c f p =
       let e : refused c ≡ length-is (length (written S)) = rw (le-leb (length (written S)) (length before) (f S r refl)) at (p .reply) in
-      let z : _≡_ {A = ℕ} 0 1 = cc in
-      omega arith
+      clash cc
