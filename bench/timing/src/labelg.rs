@@ -7,7 +7,7 @@ use sides::code_of;
 use sides::maps::{shuffled, Kind, KINDS};
 use sides::random::Random;
 use std::collections::HashMap;
-use std::path::{Path, PathBuf};
+use std::path::Path;
 use std::process::Command;
 
 /// A run that takes longer is ended and not counted.
@@ -95,7 +95,8 @@ fn row(program: &str, kind: Kind, n: usize, pairs: usize, file: &Path) {
     println!("| {} | {n} | {} | {} | {} | {labelg}", kind.0, work.calls, digits(engine), digits(reference));
 }
 
-pub fn table() {
+/// The table, through a file of this name that is written and read.
+pub fn table(file: &Path) {
     println!("\n## Code of a map, and labelg on the same maps as digraphs\n");
     let Some(program) = program() else {
         println!("labelg is not installed (package nauty), so it was not run.");
@@ -108,11 +109,10 @@ pub fn table() {
     println!("ended. Equal forms stood exactly where the codes are equal.\n");
     println!("| maps | points | calls | engine, µs a call | reference, µs a call | labelg, µs a map | engine / labelg |");
     println!("|---|---:|---:|---:|---:|---:|---:|");
-    let file = PathBuf::from(std::env::args().nth(1).expect("a file for labelg"));
     for (n, pairs) in [(10, 2000), (20, 1000), (50, 500), (100, 200), (200, 100)] {
-        row(program, KINDS[0], n, pairs, &file);
+        row(program, KINDS[0], n, pairs, file);
     }
     for kind in &KINDS[1..] {
-        row(program, *kind, 200, 10, &file);
+        row(program, *kind, 200, 10, file);
     }
 }

@@ -1,6 +1,6 @@
 //! Engine and reference implementation on the same work, in turn, and nauty's labelg on the part that it can do. Prints tables in Markdown.
 //!
-//! Every time is the best of several rounds. What is timed is also compared; a difference ends the run.
+//! Named a file, it runs labelg through that file too. Every time is the best of several rounds. What is timed is also compared; a difference ends the run.
 
 mod clock;
 mod labelg;
@@ -54,5 +54,7 @@ fn main() {
     table("Code of a map of 200 points", work::codes());
     table("Isomorphism of two maps of 200 points", work::isomorphisms());
     table("Other entries on random maps of 200 points", work::others());
-    labelg::table();
+    if let Some(file) = std::env::args().nth(1) {
+        labelg::table(file.as_ref());
+    }
 }

@@ -20,7 +20,8 @@ ghost use Rattle.lists.specs.Blocks.{orderingOf};
 ghost use Rattle.patterns.specs.Tree.{code};
 ghost use Rattle.patterns.specs.Component.{Component, flat, compareComponent, rotations, validComponent};
 ghost use Rattle.memory.specs.Memory.{Held};
-ghost use Rattle.components.specs.Climbs.{HeldBeside, Climbed};
+ghost use Rattle.components.specs.Climbs.{HeldBeside, HeldMerge, Climbed};
+ghost use Rattle.components.specs.declared.Climb.the-variants.{Key};
 
 // A step from a component to its parent: there is none, or the place of the component among its parent's candidates.
 pub enum Climb {
@@ -82,7 +83,23 @@ pub fn valid_component(s: &[u8]) -> bool
     has_least_rotation(s)
 }
 
-// The component becomes its parent [document 004, Lemma 8].
+// The component becomes its parent [document 004, Lemma 8]: behind `h` points stands the first tree of more points, and its two parts take its place, the lesser
+// first. Answers the place of the component, which has so many trees, among its parent's candidates. Whoever climbs on need not count points and trees again.
+pub fn unmerge_at(s: &mut [u8], h: usize, trees: usize) -> usize
+    requires { ⌜ HeldMerge (now s) h trees ⌝ }
+    ensures { λ r. ⌜ ((c : Component) → now (s .entry) ≡ flat c → Climbed c (Key r) (now (s .exit))) ⌝ }
+{
+    let e = h + s[h] as usize;
+    let l = h + last_branch(&s[h..e]);
+    s[h] = s[h] - s[l];
+    if at_most(&s[h..l], &s[l..e]) {
+        return h;
+    }
+    exchange(s, h, l, e);
+    trees + h
+}
+
+// The component becomes its parent, where it has one.
 pub fn unmerge(s: &mut [u8]) -> Climb
     requires { ⌜ Held (now s) ⌝ }
     ensures { λ r. ⌜ ((c : Component) → now (s .entry) ≡ flat c → Climbed c r (now (s .exit))) ⌝ }
@@ -91,15 +108,8 @@ pub fn unmerge(s: &mut [u8]) -> Climb
     if s.len() <= h {
         return Climb::Root;
     }
-    let e = h + s[h] as usize;
-    let l = h + last_branch(&s[h..e]);
     let trees = count(s);
-    s[h] = s[h] - s[l];
-    if at_most(&s[h..l], &s[l..e]) {
-        return Climb::Key(h);
-    }
-    exchange(s, h, l, e);
-    Climb::Key(trees + h)
+    Climb::Key(unmerge_at(s, h, trees))
 }
 
 // The parent of a component, in `out`.

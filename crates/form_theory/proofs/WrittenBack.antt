@@ -6,9 +6,9 @@ use mathlib.Core.List.{List, [], _∷_}
 use Prim.Native.Nat.{ℕ, _≤_, _<_}
 use native.Mathlib.Omega.{arith}
 use lib.ListN.{length}
-use Rattle.lists.specs.Select.{gather}
+use Rattle.lists.specs.Select.{each, gather}
 use Rattle.patterns.specs.Tree.{Tree, point, merge, size, below, code}
-use Rattle.patterns.specs.Component.{Component, points, flat}
+use Rattle.patterns.specs.Component.{Component, points, flat, nonempty}
 use Rattle.patterns.specs.System.{System, weight, canonical}
 use Rattle.patterns.specs.Written.{componentNumbers, numbers, bytes, written}
 use Rattle.patterns.specs.Reading.{done, cut, readSystem, accepted}
@@ -43,6 +43,11 @@ numbers-below k S c h =
     below-cons k (weight S) (length S ∷ gather componentNumbers S) h
     (below-cons k (length S) (gather componentNumbers S) (omega (arith, components-points S (canonical-nonempty S c))) (components-below k S h))
 
+-- the written code of a system whose components have trees has at most 804 bytes
+pub written-short : (S : System) → each nonempty S ≡ true → weight S ≤ 200 → length (written S) ≤ 804
+unfolding written
+written-short S c h = omega (arith, bytes-length (numbers S), length-components S, components-points S c)
+
 module _ (S : System) (c : canonical S ≡ true) (h : weight S ≤ 200) where
   numbers-short : allBelow 16384 (numbers S) ≡ true
   numbers-short = numbers-below 16384 S c (omega arith)
@@ -52,10 +57,8 @@ module _ (S : System) (c : canonical S ≡ true) (h : weight S ≤ 200) where
   unfolding accepted written
   written-back = rw (cut-bytes (numbers S) numbers-short) (read-system S c h)
 
-  -- a written code has at most 804 bytes
   pub written-fits : length (written S) ≤ 804
-  unfolding written
-  written-fits = omega (arith, bytes-length (numbers S), length-components S, components-points S (canonical-nonempty S c))
+  written-fits = written-short S (canonical-nonempty S c) h
 
   pub written-bytes : allBelow 256 (written S) ≡ true
   unfolding written

@@ -20,6 +20,8 @@ use Rattle.patterns.specs.Generation.{hasParent, parent}
 use Rattle.patterns.specs.System.{compareGenerated}
 use Rattle.patterns.proofs.Trees.{length-flat, flat-injective}
 use Rattle.component_theory.specs.Path.{key, path}
+use Rattle.trees.specs.Beginnings.{leadingPoints}
+use Rattle.trees.proofs.FirstPoints.{drop-points}
 use Rattle.paths.specs.HeldPaths.{HeldKeys, HeldPair, Traced}
 use Rattle.components.specs.Climbs.{Climbed}
 use Rattle.components.specs.declared.Climb.the-variants.{Key}
@@ -120,8 +122,20 @@ key-small c t =
     (λ e. omega (arith, ap key (v .split), key-left (v .leading) (v .left) (v .right) (v .rest) e))
     (λ e. omega (arith, ap key (v .split), ap length (v .split), key-right (v .leading) (v .left) (v .right) (v .rest) e))
 
--- the component s₀ has climbed to s, and the keys of the way down from s to s₀ stand from `at` on
-pub record Tracing (s₀ keys₀ s keys : List ℕ) (at : ℕ) : Type 0 where
+-- a step up keeps the leading points
+parent-leading : (c : Component) → leadingPoints c ≤ leadingPoints (parent c)
+unfolding parent
+parent-leading [] = omega arith
+parent-leading (point ∷ c) = omega (arith, parent-leading c)
+parent-leading (merge t u ∷ c) = omega arith
+
+leading-within : (c : Component) → leadingPoints c ≤ points c
+leading-within [] = omega arith
+leading-within (point ∷ c) = omega (arith, leading-within c)
+leading-within (merge t u ∷ c) = omega arith
+
+-- the component s₀ has climbed to s, which has so many trees and at least so many leading points, and the keys of the way down from s to s₀ stand from `at` on
+pub record Tracing (s₀ keys₀ s keys : List ℕ) (trees lead at : ℕ) : Type 0 where
   pub top : Component
   pub reached : Component
   pub top-is : s₀ ≡ flat top
@@ -132,9 +146,11 @@ pub record Tracing (s₀ keys₀ s keys : List ℕ) (at : ℕ) : Type 0 where
   pub deep : points reached ≤ at + length reached
   pub small : length s ≤ 200
   pub rest : path top ≡ path reached ++ drop at keys
+  pub counted : trees ≡ length reached
+  pub leads : lead ≤ leadingPoints reached
 
-pub tracing-start : {s keys : List ℕ} → HeldKeys s keys → Tracing s keys s keys (length keys)
-tracing-start {s} {keys} h = record {
+pub tracing-start : {s keys : List ℕ} {trees : ℕ} (h : HeldKeys s keys) → trees ≡ length (h .trees) → Tracing s keys s keys trees 0 (length keys)
+tracing-start {s} {keys} h n = record {
   top = h .trees;
   reached = h .trees;
   top-is = h .is;
@@ -145,9 +161,24 @@ tracing-start {s} {keys} h = record {
   deep = omega (arith, h .room, ap length (h .is), length-flat (h .trees));
   small = h .small;
   rest = sym (append-nil (path (h .trees))) ∙ ap (λ l. path (h .trees) ++ l) (sym (drop-length keys));
+  counted = n;
+  leads = omega arith;
 }
 
-module _ {s₀ keys₀ s keys : List ℕ} {at : ℕ} (w : Tracing s₀ keys₀ s keys at) where
+module _ {s₀ keys₀ s keys : List ℕ} {trees lead at : ℕ} (w : Tracing s₀ keys₀ s keys trees lead at) where
+  pub tracing-within : leadingPoints (w .reached) ≤ length s
+  tracing-within = omega (arith, leading-within (w .reached), ap length (w .is), length-flat (w .reached))
+
+  -- the trees behind the leading points that are known, and those found among them
+  pub tracing-ahead : take (length s - lead) (drop lead s) ≡ flat (drop lead (w .reached))
+  tracing-ahead =
+      take-all (length s - lead) (drop lead s) (omega (arith, length-drop lead s))
+      ∙ ap (drop lead) (w .is)
+      ∙ (drop-points (w .reached) lead (w .leads)) .0
+
+  pub tracing-lead : {k : ℕ} → k ≡ leadingPoints (drop lead (w .reached)) → lead + k ≡ leadingPoints (w .reached)
+  tracing-lead e = omega (arith, e, (drop-points (w .reached) lead (w .leads)) .1)
+
   ended : points (w .reached) ≤ length (w .reached) → (c : Component) → s₀ ≡ flat c → Traced c at keys
   ended h c e = record {
     within = w .within;
@@ -166,8 +197,9 @@ module _ {s₀ keys₀ s keys : List ℕ} {at : ℕ} (w : Tracing s₀ keys₀ s
       omega (arith, key-small (w .reached) (h .0), h .2, length-points (w .reached), ap length (w .is), length-flat (w .reached), w .small)
 
   -- one step up
-  pub tracing-step : {k : ℕ} {s′ : List ℕ} → 0 < at → Climbed (w .reached) (Key k) s′ → Tracing s₀ keys₀ s′ (set keys (at - 1) k) (at - 1)
-  tracing-step {k} {s′} p h =
+  pub tracing-step : {k h : ℕ} {s′ : List ℕ} → 0 < at → h ≡ leadingPoints (w .reached) → Climbed (w .reached) (Key k) s′
+      → Tracing s₀ keys₀ s′ (set keys (at - 1) k) (trees + 1) h (at - 1)
+  tracing-step {k} {s′ = s′} p q h =
       let n : suc (at - 1) ≡ at = omega arith in
       let i : at - 1 < length keys = omega (arith, w .within) in
       let d : drop (at - 1) (set keys (at - 1) k) ≡ key (w .reached) ∷ drop at keys =
@@ -189,6 +221,8 @@ module _ {s₀ keys₀ s keys : List ℕ} {at : ℕ} (w : Tracing s₀ keys₀ s
         rest = w .rest ∙ ap (λ m. m ++ drop at keys) (parent-path (w .reached) (h .0))
             ∙ append-assoc (path (parent (w .reached))) (key (w .reached) ∷ []) (drop at keys)
             ∙ ap (λ m. path (parent (w .reached)) ++ m) (sym d);
+        counted = omega (arith, w .counted, parent-length (w .reached) (h .0));
+        leads = omega (arith, q, parent-leading (w .reached));
       }
 
 -- a buffer of n keys read from where the path begins to its end

@@ -1,8 +1,9 @@
 // The path of a component, and which of two components comes first.
-use components::Climb;
-use components::unmerge;
+use components::unmerge_at;
 use lists::Order;
 use patterns::points_room;
+use trees::count;
+use trees::leading;
 ghost use denote.Ref.{now};
 ghost use mathlib.Core.Path.{_≡_};
 ghost use mathlib.Core.Bool.{not, true, cond};
@@ -52,19 +53,24 @@ fn ended(i: usize, even: Order, odd: Order) -> Order
     odd
 }
 
-// The component climbs to the cycle, and its path is written into the last places of `keys`. Answers where the path begins.
+// The component climbs to the cycle, and its path is written into the last places of `keys`. Answers where the path begins. A step up keeps the leading
+// points and gives one tree more, so neither is counted anew.
 pub fn path_into(s: &mut [u8], keys: &mut [u16]) -> usize
     requires { ⌜ HeldKeys (now s) (now keys) ⌝ }
     ensures { λ r. ⌜ ((c : Component) → now (s .entry) ≡ flat c → Traced c r (now (keys .exit))) ⌝ }
 {
+    let mut trees = count(s);
+    let mut lead = 0;
     let mut at = keys.len();
     while 0 < at {
-        let step = unmerge(s);
-        let Climb::Key(key) = step else {
+        lead += leading(&s[lead..]);
+        if s.len() <= lead {
             return at;
-        };
+        }
+        let key = unmerge_at(s, lead, trees);
         at -= 1;
         keys[at] = key as u16;
+        trees += 1;
     }
     at
 }

@@ -1,3 +1,4 @@
 -- The theory of this layer.
 pub mod Walks
+pub mod FirstPoints
 pub mod Merging

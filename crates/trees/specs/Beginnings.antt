@@ -1,6 +1,6 @@
 -- Where parts of a component and of a tree begin.
 use mathlib.Core.List.{[], _∷_}
-use Prim.Native.Nat.{ℕ, suc}
+use Prim.Native.Nat.{ℕ, zero, suc}
 use Rattle.patterns.specs.Tree.{Tree, point, merge, size}
 use Rattle.patterns.specs.Component.{Component}
 
@@ -14,3 +14,8 @@ leadingPoints (merge t u ∷ c) = 0
 abbrev pub lastStart : Tree → ℕ
 lastStart point = 1
 lastStart (merge t u) = size t
+
+-- a point with so many single points as branches
+abbrev pub star : ℕ → Tree
+star zero = point
+star (suc k) = merge (star k) point

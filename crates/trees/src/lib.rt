@@ -12,10 +12,10 @@ ghost use lib.ListN.{length};
 ghost use Rattle.lists.specs.Order.{lex, atMost};
 ghost use Rattle.lists.specs.Select.{each};
 ghost use Rattle.lists.specs.Blocks.{orderingOf};
-ghost use Rattle.patterns.specs.Tree.{Tree, merge, code, validTree};
+ghost use Rattle.patterns.specs.Tree.{Tree, merge, code, branches, validTree};
 ghost use Rattle.patterns.specs.Component.{Component, flat};
 ghost use Rattle.memory.specs.Memory.{Held, HeldTree};
-ghost use Rattle.trees.specs.Beginnings.{leadingPoints, lastStart};
+ghost use Rattle.trees.specs.Beginnings.{leadingPoints, lastStart, star};
 ghost use Rattle.trees.specs.HeldNeighbours.{behind, HeldNeighbours};
 
 // Less or equal.
@@ -36,13 +36,32 @@ pub fn at_most(s: &[u8], t: &[u8]) -> bool
     not_greater(compare(s, t))
 }
 
+// How many of its first branches are single points. They are counted and not walked, here and in `count`, since most trees and cycles begin with many.
+fn first_points(s: &[u8]) -> usize
+    requires { ⌜ HeldTree (now s) ⌝ }
+    ensures { λ r. ⌜ ((t : Tree) → now (s .entry) ≡ code t → r ≡ leadingPoints (branches t)) ⌝ }
+{
+    leading(&s[1..])
+}
+
+// Where the last of so many first branches that are single points begins, and 1 where there is none.
+fn last_point(points: usize) -> usize
+    ensures { λ r. ⌜ r ≡ lastStart (star points) ⌝ }
+{
+    if points == 0 {
+        return 1;
+    }
+    points
+}
+
 // Every point of the tree has its branches in nondecreasing order [document 004, Definition 1].
 pub fn valid_tree(s: &[u8]) -> bool
     requires { ⌜ HeldTree (now s) ⌝ }
     ensures { λ r. ⌜ ((t : Tree) → now (s .entry) ≡ code t → r ≡ validTree t) ⌝ }
 {
-    let mut last = 1;
-    let mut at = 1;
+    let points = first_points(s);
+    let mut last = last_point(points);
+    let mut at = points + 1;
     while at < s.len() {
         let end = at + s[at] as usize;
         if !valid_tree(&s[at..end]) {
@@ -78,8 +97,8 @@ pub fn count(s: &[u8]) -> usize
     requires { ⌜ Held (now s) ⌝ }
     ensures { λ r. ⌜ ((c : Component) → now (s .entry) ≡ flat c → r ≡ length c) ⌝ }
 {
-    let mut at = 0;
-    let mut n = 0;
+    let mut at = leading(s);
+    let mut n = at;
     while at < s.len() {
         at += s[at] as usize;
         n += 1;
@@ -107,8 +126,9 @@ pub fn last_branch(s: &[u8]) -> usize
     requires { ⌜ HeldTree (now s) ⌝ }
     ensures { λ r. ⌜ ((t : Tree) → now (s .entry) ≡ code t → r ≡ lastStart t) ⌝ }
 {
-    let mut last = 1;
-    let mut at = 1;
+    let points = first_points(s);
+    let mut last = last_point(points);
+    let mut at = points + 1;
     while at < s.len() {
         last = at;
         at += s[at] as usize;

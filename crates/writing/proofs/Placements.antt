@@ -1,12 +1,14 @@
 -- Writing numbers, components and whole systems into a lent output, one after another, with exactly the room that they need.
-use mathlib.Core.Path.{_≡_, refl, ap, _∙_}
+use mathlib.Core.Path.{_≡_, refl, ap, sym, _∙_, subst}
+use mathlib.Core.Bool.{Bool, true, false}
 use mathlib.Core.List.{List, [], _∷_, _++_, append-nil}
 use Prim.Native.Nat.{ℕ, _+_, _-_, _≤_, _<_}
 use native.Mathlib.Numerals.{add-one}
 use native.Mathlib.Omega.{arith}
 use lib.ListN.{length, take, drop, getD, length-append}
 use lib.Seq.{take-suc, take-all}
-use borrow.Author.Tests.{le-leb}
+use lib.Dec.{ltb}
+use borrow.Author.Tests.{le-leb, ltb-true, ltb-false}
 use Rattle.lists.specs.Select.{gather}
 use Rattle.patterns.specs.Component.{Component, flat}
 use Rattle.patterns.specs.System.{System, weight}
@@ -22,6 +24,7 @@ use Rattle.form_theory.proofs.Bounds.{gather-within}
 use Rattle.form_theory.proofs.Numbers.{bytes-append}
 use Rattle.form_theory.proofs.Readback.{trees-points, components-points}
 use Rattle.form_theory.proofs.Stretches.{componentBytes, bytes-gather}
+use Rattle.form_theory.proofs.WrittenBack.{written-short}
 use Rattle.form_theory.proofs.Widths.{widths-next, widths-within}
 use Rattle.writing.specs.Writable.{ComponentRoom, ComponentsRoom, SystemRoom}
 
@@ -208,23 +211,30 @@ module _ {sizes trees before : List ℕ} {at : ℕ} (w : SystemRoom sizes trees 
           let body : Placed (writeNumber (length sizes) ++ bytes (gather componentNumbers S)) front mid r after = placed-then (count-fits .1) q (f S h) in
           rw (held-points h, held-count h) at (placed-then (points-fit .1) p body)
 
--- The whole system put into the output.
-module _ {sizes trees before : List ℕ} (w : HeldSystem sizes trees) (k : ℕ) (e : (S : System) → Holds S sizes trees → k ≡ length (written S)) where
-  pub put-short : length before < k → (S : System) → Holds S sizes trees → Replied (gives (written S)) before (refused 8) before
-  put-short h S i = put-refused (written S) before (omega (arith, e S i))
+-- The whole system put into the output, after a test whether it lacks room.
+module _ {sizes trees : List ℕ} (w : HeldSystem sizes trees) where
+  pub held-short : (S : System) → Holds S sizes trees → length (written S) ≤ 804
+  held-short S h = subst (λ R. length (written R) ≤ 804) (held-unique (w .holds) h) (written-short (w .system) (w .each-nonempty) (w .small))
 
-  pub put-room : k ≤ length before → SystemRoom sizes trees before 0
-  put-room h = record { held = w; room = omega (arith, e (w .system) (w .holds)) }
+module _ {sizes trees : List ℕ} (w : HeldSystem sizes trees) (before : List ℕ) {b : Bool}
+    (e : (S : System) → Holds S sizes trees → b ≡ ltb (length before) (length (written S))) where
+  fits : b ≡ false → (S : System) → Holds S sizes trees → length (written S) ≤ length before
+  fits f S i = ltb-false (length before) (length (written S)) (sym (e S i) ∙ f)
 
-  pub put-whole : k ≤ length before → (r : ℕ) (after : List ℕ) → ((S : System) → Holds S sizes trees → Placed (written S) 0 before r after)
+  pub put-short : b ≡ true → (S : System) → Holds S sizes trees → Replied (gives (written S)) before (refused 8) before
+  put-short t S i = put-refused (written S) before (ltb-true (length before) (length (written S)) (sym (e S i) ∙ t))
+
+  pub put-room : b ≡ false → SystemRoom sizes trees before 0
+  put-room f = record { held = w; room = omega (arith, fits f (w .system) (w .holds)) }
+
+  pub put-whole : b ≡ false → (r : ℕ) (after : List ℕ) → ((S : System) → Holds S sizes trees → Placed (written S) 0 before r after)
       → (S : System) → Holds S sizes trees → Replied (gives (written S)) before (length-is r) after
-  put-whole h r after p S i =
+  put-whole f r after p S i =
       let n = length (written S) in
-      let fits : n ≤ length before = omega (arith, e S i) in
       let q = p S i in
       let r-is : r ≡ n = omega (arith, q .end) in
       let z : 0 + n ≡ n = omega arith in
       record {
-        reply = rw (le-leb n (length before) fits) (ap length-is r-is);
-        output = q .output ∙ rw (le-leb n (length before) fits) (ap (λ j. written S ++ drop j before) z);
+        reply = rw (le-leb n (length before) (fits f S i)) (ap length-is r-is);
+        output = q .output ∙ rw (le-leb n (length before) (fits f S i)) (ap (λ j. written S ++ drop j before) z);
       }

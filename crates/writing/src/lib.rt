@@ -8,6 +8,7 @@ use written::put_number;
 ghost use denote.Ref.{now};
 ghost use mathlib.Core.Path.{_≡_};
 ghost use Prim.Native.Nat.{_≤_, _+_};
+ghost use lib.Dec.{ltb};
 ghost use lib.ListN.{length};
 ghost use Rattle.lists.specs.Select.{gather};
 ghost use Rattle.patterns.specs.Component.{Component, flat};
@@ -145,13 +146,25 @@ pub fn write_system(sizes: &[u8], trees: &[u8], out: &mut [u8], at: usize) -> us
     write_components(sizes, trees, out, next)
 }
 
+// `room` bytes are too few for the written code of the system. 1,000 bytes hold every code [document 01, "The written code"], so it is measured only where there
+// are fewer.
+fn lacks_room(sizes: &[u8], trees: &[u8], room: usize) -> bool
+    requires { ⌜ HeldSystem (now sizes) (now trees) ⌝ }
+    ensures { λ r. ⌜ ((S : System) → Holds S (now (sizes .entry)) (now (trees .entry)) → r ≡ ltb room (length (written S))) ⌝ }
+{
+    if 1000 <= room {
+        return false;
+    }
+    room < system_length(sizes, trees)
+}
+
 // Puts the written code of the system into the first places of `out`, where there is room for it.
 pub fn put_system(sizes: &[u8], trees: &[u8], out: &mut [u8]) -> Reply
     requires { ⌜ HeldSystem (now sizes) (now trees) ⌝ }
     ensures { λ r. ⌜ ((S : System) → Holds S (now (sizes .entry)) (now (trees .entry))
         → Replied (gives (written S)) (now (out .entry)) (answerOf r) (now (out .exit))) ⌝ }
 {
-    if out.len() < system_length(sizes, trees) {
+    if lacks_room(sizes, trees, out.len()) {
         return Reply::Refused(Refusal::Room);
     }
     Reply::Length(write_system(sizes, trees, out, 0))

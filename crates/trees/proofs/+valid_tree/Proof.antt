@@ -2,7 +2,7 @@ use denote.Ref.{now}
 use mathlib.Core.Path.{_≡_, refl, sym, ap, _∙_}
 use mathlib.Core.Bool.{true}
 use mathlib.Core.List.{List}
-use Prim.Native.Nat.{ℕ, _-_, _≤_, _<_}
+use Prim.Native.Nat.{ℕ, _+_, _-_, _≤_, _<_}
 use native.Mathlib.Omega.{arith}
 use borrow.Author.Needs.{needs}
 use borrow.Fn.PlainCycle.{Measures, is, falls, and}
@@ -11,12 +11,15 @@ use lib.ListN.{length}
 use Rattle.lists.proofs.Tests.{not-of-true, not-of-false}
 use Rattle.patterns.specs.Tree.{Tree, validTree, lastAtMost}
 use Rattle.patterns.proofs.Trees.{merge-valid, length-code, size-positive}
-use Rattle.memory.specs.Memory.{HeldTree}
-use Rattle.trees.proofs.Walks.{Inside, Next, inside-start, inside-next, inside-step, inside-end, inside-last, inside-order, inside-fails, merge-invalid, merge-unordered, next-stretch}
+use Rattle.trees.specs.Beginnings.{lastStart, star}
+use Rattle.trees.proofs.Walks.{Inside, Next, inside-length, inside-next, inside-step, inside-end, inside-last, inside-order, inside-fails, merge-invalid, merge-unordered, next-stretch}
+use Rattle.trees.proofs.FirstPoints.{inside-points, star-valid}
 use Rattle.trees.proofs.valid_tree.Reads as valid-tree
 use Rattle.trees.proofs.valid_tree.Kinds as valid-tree-kinds
 use Rattle.trees.proofs.+valid_tree.Lts-valid_tree as lts
 use Rattle.trees.proofs.at_most.Reads as at-most-reads
+use Rattle.trees.proofs.first_points.Reads as first-points
+use Rattle.trees.proofs.last_point.Reads as last-point
 use Rattle.trees.proofs.+valid_tree.{statement}
 use Rattle.trees.proofs.+valid_tree.Tie.{close}
 
@@ -35,24 +38,26 @@ abbrev Valid : Tree → Type 0
 Valid t = validTree t ≡ true
 
 abbrev Inv-loop : lts.InvT-loop
-Inv-loop s last₀ at₀ last at = Inside s last at Valid
+Inv-loop s points last₀ at₀ last at = Inside s last at Valid
 
 abbrev μ-loop : lts.MeasureT-loop
-μ-loop s last₀ at₀ last at = length s - at
+μ-loop s points last₀ at₀ last at = length s - at
 
-begun : {s : List ℕ} → HeldTree s → Inside s 1 1 Valid
-unfolding validTree
-begun h = inside-start h Valid refl
+-- the start, the places behind the branches that are points, and a turn of the loop, after the branch at the place has been tested, and after it has been compared with the one before
+abbrev Start : ℕ → Type 0
+Start t = lts.Start (first-points.Asked, first-points.Learnt, last-point.Asked, last-point.Learnt, valid-tree-below t, valid-tree.Post, at-most-reads.Asked, at-most-reads.Learnt) (valid-tree-at t) valid-tree.Post Inv-loop μ-loop
 
--- a turn of the loop, after the branch at the place has been tested, and after it has been compared with the one before
+abbrev Passed : ℕ → Type 0
+Passed t = lts.After-last-point (first-points.Asked, first-points.Learnt, last-point.Asked, last-point.Learnt, valid-tree-below t, valid-tree.Post, at-most-reads.Asked, at-most-reads.Learnt) (valid-tree-at t) valid-tree.Post Inv-loop μ-loop
+
 abbrev Turn : ℕ → Type 0
-Turn t = lts.In-loop (valid-tree-below t, valid-tree.Post, at-most-reads.Asked, at-most-reads.Learnt) (valid-tree-at t) valid-tree.Post Inv-loop μ-loop
+Turn t = lts.In-loop (first-points.Asked, first-points.Learnt, last-point.Asked, last-point.Learnt, valid-tree-below t, valid-tree.Post, at-most-reads.Asked, at-most-reads.Learnt) (valid-tree-at t) valid-tree.Post Inv-loop μ-loop
 
 abbrev Tested : ℕ → Type 0
-Tested t = lts.After-valid-tree (valid-tree-below t, valid-tree.Post, at-most-reads.Asked, at-most-reads.Learnt) (valid-tree-at t) valid-tree.Post Inv-loop μ-loop
+Tested t = lts.After-valid-tree (first-points.Asked, first-points.Learnt, last-point.Asked, last-point.Learnt, valid-tree-below t, valid-tree.Post, at-most-reads.Asked, at-most-reads.Learnt) (valid-tree-at t) valid-tree.Post Inv-loop μ-loop
 
 abbrev Compared : ℕ → Type 0
-Compared t = lts.After-at-most (valid-tree-below t, valid-tree.Post, at-most-reads.Asked, at-most-reads.Learnt) (valid-tree-at t) valid-tree.Post Inv-loop μ-loop
+Compared t = lts.After-at-most (first-points.Asked, first-points.Learnt, last-point.Asked, last-point.Learnt, valid-tree-below t, valid-tree.Post, at-most-reads.Asked, at-most-reads.Learnt) (valid-tree-at t) valid-tree.Post Inv-loop μ-loop
 
 abbrev turn : {t : ℕ} → Tested t → Turn t
 turn c = c .before .before .before
@@ -61,8 +66,17 @@ abbrev tested : {t : ℕ} → Compared t → Tested t
 tested c = c .before .before .before .before
 
 module _ {t : ℕ} where
+  begun : (c : Passed t) → let k = c .before .first-points .result in Inside (now (c .before .before .before .args .s)) (lastStart (star k)) (k + 1) Valid
+  begun c =
+      let k = c .before .first-points .result in
+      let h = c .before .before .before .pre .1 in
+      inside-points h (c .before .first-points .ensures (h .tree) (h .is)) Valid (star-valid k)
+
+  abbrev entered : Turn t → Start t
+  entered c = c .before .before .before .before .before
+
   abbrev S : Turn t → List ℕ
-  S c = now (c .before .before .before .args .s)
+  S c = now (entered c .args .s)
 
   abbrev W : (c : Turn t) → Inside (S c) (c .before .loop .last) (c .before .loop .at) Valid
   W c = c .before .loop .inv
@@ -82,6 +96,10 @@ module _ {t : ℕ} where
 
 pub +valid-tree-spec : {M : Type 1} → statement M
 +valid-tree-spec = close μ-valid-tree λ t. lts.spec (
+  first-points.Asked,
+  first-points.Learnt,
+  last-point.Asked,
+  last-point.Learnt,
   valid-tree-below t,
   valid-tree.Post,
   at-most-reads.Asked,
@@ -91,7 +109,10 @@ pub +valid-tree-spec : {M : Type 1} → statement M
     valid-tree.Post
     Inv-loop
     μ-loop
-    (λ c. begun (c .before .pre .1))
+    (λ c κs. c .before .pre .1)
+    (λ c κs. search needs)
+    (λ c. omega (arith, inside-length (begun c)))
+    (λ c. rw (c .last-point .ensures) (begun c))
     (λ c. search needs)
     (λ c. omega (arith, c .shared-slice-known2 .given (c .before .before .loop .at)))
     (λ c. omega (arith, here (c .before)))

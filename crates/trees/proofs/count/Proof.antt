@@ -1,11 +1,13 @@
 use mathlib.Core.List.{[], _∷_}
-use mathlib.Core.Path.{_≡_, refl, sym, ap, _∙_}
+use mathlib.Core.Path.{_≡_, sym, ap, _∙_}
 use Prim.Native.Nat.{_-_, _+_}
 use native.Mathlib.Omega.{arith}
 use borrow.Author.Needs.{needs}
-use lib.ListN.{length, length-append}
+use lib.ListN.{length, length-append, length-replicate}
+use Rattle.patterns.specs.Tree.{point}
 use Rattle.component_theory.proofs.Generation.{length-points}
-use Rattle.trees.proofs.Walks.{Along, along-start, along-next, along-step, along-end}
+use Rattle.trees.proofs.Walks.{Along, along-next, along-step, along-end}
+use Rattle.trees.proofs.FirstPoints.{along-points}
 use Rattle.trees.proofs.count.Statement.{statement}
 use Rattle.trees.proofs.count.Tie as tie
 
@@ -16,10 +18,13 @@ abbrev μ-loop : tie.MeasureT-loop
 μ-loop s at₀ n₀ at n = length s - at
 
 loop-holds : tie.Need-loop-holds Inv-loop μ-loop
-loop-holds c = along-start (c .pre) (λ a r. length a ≡ 0) refl
+loop-holds c =
+    let k = c .leading .result in
+    let h = c .before .before .pre in
+    along-points h (c .leading .ensures (h .trees) (h .is)) (λ a r. length a ≡ k) (length-replicate k point)
 
 cast-at : tie.Need-cast-at Inv-loop μ-loop
-cast-at c = omega (arith, c .shared-slice-known .given (c .before .before .loop .at))
+cast-at c = omega (arith, c .shared-slice-known2 .given (c .before .before .loop .at))
 
 add-at : tie.Need-add-at Inv-loop μ-loop
 add-at c =
@@ -51,6 +56,7 @@ count-spec =
     (tie.spec
     Inv-loop
     μ-loop
+    (λ c κs. search needs)
     loop-holds
     (λ c. search needs)
     cast-at
