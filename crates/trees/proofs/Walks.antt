@@ -11,10 +11,10 @@ use Rattle.lists.specs.Order.{lex, atMost}
 use Rattle.lists.specs.Select.{each}
 use Rattle.lists.proofs.Tests.{is-false, no-both, true-and, each-append, each-cons, each-false}
 use Rattle.lists.proofs.Members.{in-append-right, in-head}
-use Rattle.patterns.specs.Tree.{Tree, point, merge, size, below, code, branches, graftOn, compareTree, lastAtMost, validTree}
+use Rattle.patterns.specs.Tree.{Tree, point, merge, size, below, code, graftOn, compareTree, lastAtMost, validTree}
 use Rattle.patterns.specs.Component.{Component, points, flat}
-use Rattle.patterns.proofs.Trees.{size-positive, length-below, length-code, length-flat, points-append, flat-append, code-injective, flat-injective, graft-branches, valid-merge}
-use Rattle.memory.specs.Memory.{Held, HeldTree}
+use Rattle.patterns.proofs.Trees.{size-positive, length-below, length-code, length-flat, points-append, flat-append, code-injective, flat-injective, valid-merge}
+use Rattle.memory.specs.Memory.{Held}
 use Rattle.trees.specs.Beginnings.{lastStart, leadingPoints}
 
 -- the tree that begins at a place: its size is the number there, and its code the stretch of so many bytes
@@ -130,16 +130,6 @@ pub record Inside (s : List ℕ) (last at : ℕ) (P : Tree → Type 0) : Type 0 
   pub place : at ≡ size had
   pub from : last ≡ lastStart had
   pub kept : P had
-
-pub inside-start : {s : List ℕ} (h : HeldTree s) (P : Tree → Type 0) → P point → Inside s 1 1 P
-inside-start h P p = record {
-  had = point;
-  rest = branches (h .tree);
-  cut = h .is ∙ sym (ap code (graft-branches (h .tree)));
-  place = refl;
-  from = refl;
-  kept = p;
-}
 
 module _ {s : List ℕ} {last at : ℕ} {P : Tree → Type 0} (w : Inside s last at P) where
   inside-parts : s ≡ (size (graftOn (w .had) (w .rest)) ∷ below (w .had)) ++ flat (w .rest)
