@@ -1,5 +1,5 @@
 // The entries of the engine for callers in C: numbers and byte slices in, one signed number out. Of each slice C hands over a pointer and a count.
-use component_reader::stretch_of;
+use component_parts::stretch_of;
 use patterns::Census;
 use patterns::Isomorphism;
 use patterns::Refusal;

@@ -1,38 +1,12 @@
 // The component reader [document 01, "Refusing", last paragraph]: it shows the bytes of one component at a time, as a part of the code that it was
 // given. A reader is a code and a position. The functions over it are thin: what they answer is found by functions on a slice and a number.
-use acceptance::accept_into;
+use component_parts::part_of;
+use component_parts::stretch_of;
 use patterns::Stretch;
-use patterns::points_room;
-use reading::Accepted;
-use writing::stretch_in;
 ghost use denote.Ref.{now};
 ghost use mathlib.Core.Path.{_≡_};
-ghost use Rattle.patterns.specs.Entry.{componentOf};
 ghost use Rattle.patterns.specs.Replies.{partAnswer};
-ghost use Rattle.patterns.specs.Entry.{partAnswered};
-ghost use Rattle.patterns.specs.Entry.{Shown};
-
-// Where the component at `position`, counted from 0, stands in `code`. The code's own faults come first.
-pub fn stretch_of(code: &[u8], position: usize) -> Stretch
-    ensures { λ r. ⌜ partAnswer r ≡ partAnswered (componentOf (now (code .entry)) position) ⌝ }
-{
-    let mut sizes = points_room();
-    let mut trees = points_room();
-    match accept_into(code, &mut sizes, &mut trees) {
-        Accepted::Refused(cause) => Stretch::Refused(cause),
-        Accepted::System(m, n) => stretch_in(&sizes[..m], &trees[..n], position),
-    }
-}
-
-// The bytes of the component at `position` where they stand in `code`; where there is a refusal, none.
-pub fn part_of(code: &[u8], position: usize) -> &[u8]
-    ensures { λ r. ⌜ Shown (code .entry) (componentOf (now (code .entry)) position) r ⌝ }
-{
-    match stretch_of(code, position) {
-        Stretch::Part(start, end) => &code[start..end],
-        Stretch::Refused(_) => &code[0..0],
-    }
-}
+ghost use Rattle.patterns.specs.Entry.{componentOf, partAnswered, Shown};
 
 // The component reader: a code that it was given, and a position in it, counted from 0.
 pub struct ComponentReader<'a> {

@@ -52,10 +52,10 @@ use Rattle.component_reader.proofs.ComponentReader as T
 use Rattle.component_reader.proofs.ComponentReader.Laws as T′
 use Rattle.patterns.proofs.reply.Stretch as S
 use Rattle.patterns.proofs.reply.Stretch.Laws as S′
-use Rattle.component_reader.proofs.stretch_of as found
-use Rattle.component_reader.proofs.stretch_of.Symbol as found-def
-use Rattle.component_reader.proofs.stretch_of.Symbol.{name as #stretch-of}
-use Rattle.component_reader.proofs.stretch_of.Met as found-thm
+use Rattle.component_parts.proofs.stretch_of as found
+use Rattle.component_parts.proofs.stretch_of.Symbol as found-def
+use Rattle.component_parts.proofs.stretch_of.Symbol.{name as #stretch-of}
+use Rattle.component_parts.proofs.stretch_of.Met as found-thm
 use Rattle.component_reader.proofs.reply.Key.{name as #reply}
 use Rattle.component_reader.proofs.reply as reply
 use Rattle.component_reader.proofs.reply.Statement as stated
@@ -166,4 +166,4 @@ reply-spec 𝓤 H 𝓜 𝓖 𝓡 =
     entered 𝓤 H (tripleOf 𝓤 H (𝓖 .A) reply.signature (reply.spec 𝓤 H (𝓖 .A) (𝓜 .mem) (𝓡 .run)))
     (tables 𝓤 H 𝓜 𝓡 body.env .C) (tables 𝓤 H 𝓜 𝓡 body.env .Λ) #reply body.function (body.unfolded 𝓤 H 𝓜 𝓡)
     (reply-meets 𝓤 H (𝓖 .A) (givenOf 𝓤 H 𝓜 𝓖) (𝓜 .mem) (𝓡 .run) (tablesOf 𝓤 H 𝓜 (tables 𝓤 H 𝓜 𝓡 body.env))
-    (cited 𝓤 H (StretchOf 𝓤 H (𝓖 .A) (𝓜 .mem) (𝓡 .run)) 𝓜 𝓡 body.env #stretch-of found-def.routine body.calls-component-reader·stretch-of (found-thm.met 𝓤 H 𝓜 𝓖 𝓡)))
+    (cited 𝓤 H (StretchOf 𝓤 H (𝓖 .A) (𝓜 .mem) (𝓡 .run)) 𝓜 𝓡 body.env #stretch-of found-def.routine body.calls-component-parts·stretch-of (found-thm.met 𝓤 H 𝓜 𝓖 𝓡)))

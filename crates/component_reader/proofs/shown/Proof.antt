@@ -47,10 +47,10 @@ use Rattle.patterns.specs.Entry.{Shown}
 use Rattle.component_reader.specs.declared.ComponentReader.{ComponentReader}
 use Rattle.component_reader.proofs.ComponentReader as T
 use Rattle.component_reader.proofs.ComponentReader.Laws as T′
-use Rattle.component_reader.proofs.part_of as found
-use Rattle.component_reader.proofs.part_of.Symbol as found-def
-use Rattle.component_reader.proofs.part_of.Symbol.{name as #part-of}
-use Rattle.component_reader.proofs.part_of.Met as found-thm
+use Rattle.component_parts.proofs.part_of as found
+use Rattle.component_parts.proofs.part_of.Symbol as found-def
+use Rattle.component_parts.proofs.part_of.Symbol.{name as #part-of}
+use Rattle.component_parts.proofs.part_of.Met as found-thm
 use Rattle.component_reader.proofs.shown.Key.{name as #shown}
 use Rattle.component_reader.proofs.shown as shown
 use Rattle.component_reader.proofs.shown.Statement as stated
@@ -165,4 +165,4 @@ shown-spec 𝓤 H 𝓜 𝓖 𝓡 =
     entered 𝓤 H (tripleOf 𝓤 H (𝓖 .A) shown.signature (shown.spec 𝓤 H (𝓖 .A) (𝓜 .mem) (𝓡 .run)))
     (tables 𝓤 H 𝓜 𝓡 body.env .C) (tables 𝓤 H 𝓜 𝓡 body.env .Λ) #shown body.function (body.unfolded 𝓤 H 𝓜 𝓡)
     (shown-meets 𝓤 H (𝓖 .A) (givenOf 𝓤 H 𝓜 𝓖) (𝓜 .mem) (𝓡 .run) (tablesOf 𝓤 H 𝓜 (tables 𝓤 H 𝓜 𝓡 body.env))
-    (cited 𝓤 H (PartFound 𝓤 H (𝓖 .A) (𝓜 .mem) (𝓡 .run)) 𝓜 𝓡 body.env #part-of found-def.routine body.calls-component-reader·part-of (found-thm.met 𝓤 H 𝓜 𝓖 𝓡)))
+    (cited 𝓤 H (PartFound 𝓤 H (𝓖 .A) (𝓜 .mem) (𝓡 .run)) 𝓜 𝓡 body.env #part-of found-def.routine body.calls-component-parts·part-of (found-thm.met 𝓤 H 𝓜 𝓖 𝓡)))

@@ -5,10 +5,10 @@ use Prim.Native.Nat.{ℕ}
 use lib.Seq.{length-take-le}
 use Rattle.acceptance.proofs.Taken.{Taken, code-taken, code-refused, taken-held, taken-count, taken-points}
 use Rattle.patterns.specs.Replies.{partAnswer}
-use Rattle.component_reader.proofs.Showing.{code-fault, code-holds}
+use Rattle.component_parts.proofs.Showing.{code-fault, code-holds}
 use borrow.Author.Needs.{needs}
-use Rattle.component_reader.proofs.stretch_of.Statement.{statement}
-use Rattle.component_reader.proofs.stretch_of.Tie as tie
+use Rattle.component_parts.proofs.stretch_of.Statement.{statement}
+use Rattle.component_parts.proofs.stretch_of.Tie as tie
 
 -- the places that the needs speak of, each named once
 abbrev start : tie.After-accept-into → tie.Start
