@@ -20,12 +20,12 @@ use Rattle.code_entries.proofs.accept.Reads as accept
 use Rattle.code_entries.proofs.accept.Kinds as accept-kinds
 use Rattle.code_entries.proofs.first.Reads as first
 use Rattle.code_entries.proofs.first.Kinds as first-kinds
-use Rattle.code_entries.proofs.successor.Reads as successor
-use Rattle.code_entries.proofs.successor.Kinds as successor-kinds
+use Rattle.successor_entry.proofs.successor.Reads as successor
+use Rattle.successor_entry.proofs.successor.Kinds as successor-kinds
 use Rattle.map_entries.proofs.code_of_map.Reads as code-of-map
 use Rattle.map_entries.proofs.code_of_map.Kinds as code-of-map-kinds
-use Rattle.code_entries.proofs.map_of_code.Reads as map-of-code
-use Rattle.code_entries.proofs.map_of_code.Kinds as map-of-code-kinds
+use Rattle.decoding_entry.proofs.map_of_code.Reads as map-of-code
+use Rattle.decoding_entry.proofs.map_of_code.Kinds as map-of-code-kinds
 use Rattle.map_entries.proofs.isomorphism.Reads as isomorphism
 use Rattle.map_entries.proofs.isomorphism.Kinds as isomorphism-kinds
 use Rattle.census_entries.proofs.census as census

@@ -2,10 +2,10 @@ use mathlib.Core.Path.{sym}
 use native.Mathlib.Omega.{arith}
 use lib.ListN.{length-take}
 use lib.Seq.{length-take-le}
-use Rattle.code_entries.proofs.MapsPut.{table-small, map-asked, table-within, map-put}
+use Rattle.decoding_entry.proofs.MapsPut.{table-small, map-asked, table-within, map-put}
 use borrow.Author.Needs.{needs}
-use Rattle.code_entries.proofs.put_map.Statement.{statement}
-use Rattle.code_entries.proofs.put_map.Tie as tie
+use Rattle.decoding_entry.proofs.put_map.Statement.{statement}
+use Rattle.decoding_entry.proofs.put_map.Tie as tie
 
 -- the places that the needs speak of, each named once
 abbrev start : tie.After-points-room → tie.Start

@@ -1,4 +1,4 @@
--- What the parts of the entries ask of lent slices.
+-- What the parts of the entry ask of lent slices.
 use mathlib.Core.Path.{_≡_}
 use mathlib.Core.Bool.{true}
 use mathlib.Core.List.{List}

@@ -4,10 +4,10 @@ use mathlib.Core.List.{List}
 use Prim.Native.Nat.{ℕ}
 use lib.Seq.{length-take-le}
 use Rattle.acceptance.proofs.Taken.{Taken, code-taken, code-refused, taken-held, taken-count, taken-points}
-use Rattle.code_entries.proofs.MapsPut.{map-of-refused, map-of-put}
+use Rattle.decoding_entry.proofs.MapsPut.{map-of-refused, map-of-put}
 use borrow.Author.Needs.{needs}
-use Rattle.code_entries.proofs.map_of_code.Statement.{statement}
-use Rattle.code_entries.proofs.map_of_code.Tie as tie
+use Rattle.decoding_entry.proofs.map_of_code.Statement.{statement}
+use Rattle.decoding_entry.proofs.map_of_code.Tie as tie
 
 -- the places that the needs speak of, each named once
 abbrev start : tie.After-accept-into → tie.Start

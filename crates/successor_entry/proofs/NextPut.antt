@@ -1,23 +1,19 @@
--- The code of a system in memory is put into the lent output: the first of a list, one that follows another, or none.
+-- The code that follows another is put into the lent output, or there is none.
 use mathlib.Core.Path.{_≡_, refl, ap, sym, _∙_}
 use mathlib.Core.Bool.{true}
-use mathlib.Core.List.{List, [], _∷_}
+use mathlib.Core.List.{List}
 use mathlib.Core.Option.{Option, none, some}
-use Prim.Native.Nat.{ℕ, _≤_, _<_}
+use Prim.Native.Nat.{ℕ, _≤_}
 use native.Mathlib.Omega.{arith}
-use lib.ListN.{length, take, replicate, length-take}
-use borrow.Author.Tests.{le-ltb, lt-ltb}
-use Rattle.lists.specs.Select.{first, next}
+use lib.ListN.{length, take, length-take}
+use Rattle.lists.specs.Select.{next}
 use Rattle.lists.proofs.Tests.{clash}
-use Rattle.lists.proofs.Members.{in-head, in-list}
-use Rattle.lists.proofs.Follow.{first-some}
 use Rattle.patterns.specs.declared.Refusal.{Refusal}
-use Rattle.patterns.specs.Tree.{point}
 use Rattle.patterns.specs.System.{System, weight, canonical, codes, compareSystem}
 use Rattle.patterns.specs.Written.{written}
 use Rattle.patterns.specs.Reading.{fault, accepted}
 use Rattle.patterns.specs.Replies.{Answer, last, refused, numberOf}
-use Rattle.patterns.specs.Entry.{gives, listed, Replied, firstOf, successorOf}
+use Rattle.patterns.specs.Entry.{gives, listed, Replied, successorOf}
 use Rattle.memory.specs.Memory.{Holds}
 use Rattle.memory.specs.Memory.{HeldSystem}
 use Rattle.stepping.specs.declared.Stepped.{Stepped}
@@ -25,33 +21,10 @@ use Rattle.stepping.specs.declared.Stepped.the-variants.{Next, Last}
 use Rattle.stepping.specs.HeldSteps.{HeldStep, SteppedTo}
 use Rattle.system_theory.specs.Step.{step}
 use Rattle.memory.proofs.Parts.{held-count, held-points, held-unique}
-use Rattle.system_theory.proofs.Codes.{codes-sound}
-use Rattle.system_theory.proofs.Firsts.{codes-first}
 use Rattle.system_theory.proofs.Step.{step-is, step-keeps}
 use Rattle.writing.proofs.CanonicalHeld.{canonical-held}
 use Rattle.acceptance.proofs.Taken.{Taken, taken-count}
-use Rattle.code_entries.specs.HeldNext.{HeldNext}
-
--- The first code.
-module _ (n : ℕ) where
-  pub first-refused : (before : List ℕ) → 200 < n → Replied (firstOf n) before (refused 1) before
-  unfolding firstOf
-  first-refused before h = rw (lt-ltb 200 n h) (record { reply = refl; output = refl })
-
-  module _ (small : n ≤ 200) {sizes trees : List ℕ} (f : (S : System) → first (codes n) ≡ some S → Holds S sizes trees) where
-    first-holds : Holds (replicate n (point ∷ [])) sizes trees
-    first-holds = f (replicate n (point ∷ [])) (codes-first n)
-
-    pub first-held : HeldSystem sizes trees
-    first-held =
-        let q = first-some (codes n) (codes-first n) in
-        let s = codes-sound n (replicate n (point ∷ [])) (in-list (sym (q .1)) in-head) in
-        canonical-held first-holds (s .0) (omega (arith, s .1))
-
-    pub first-put : {before after : List ℕ} {a : Answer}
-        → ((S : System) → Holds S sizes trees → Replied (gives (written S)) before a after) → Replied (firstOf n) before a after
-    unfolding firstOf
-    first-put {before} {after} {a} p = rw (le-ltb 200 n small, codes-first n) (p (replicate n (point ∷ [])) first-holds)
+use Rattle.successor_entry.specs.HeldNext.{HeldNext}
 
 -- The code that follows.
 module _ {sizes : List ℕ} {m : ℕ} {trees : List ℕ} (h : HeldNext sizes m trees) where

@@ -2,10 +2,10 @@ use denote.Ref.{now}
 use Prim.Native.Nat.{_≤_}
 use native.Mathlib.Omega.{arith}
 use lib.ListN.{length, length-take}
-use Rattle.code_entries.proofs.CodesPut.{next-asked, next-within, next-held, next-last, next-put}
+use Rattle.successor_entry.proofs.NextPut.{next-asked, next-within, next-held, next-last, next-put}
 use borrow.Author.Needs.{needs}
-use Rattle.code_entries.proofs.put_next.Statement.{statement}
-use Rattle.code_entries.proofs.put_next.Tie as tie
+use Rattle.successor_entry.proofs.put_next.Statement.{statement}
+use Rattle.successor_entry.proofs.put_next.Tie as tie
 
 -- the places that the needs speak of, each named once
 abbrev asked : tie.After-points-room3 → tie.Start

@@ -1,8 +1,8 @@
 use mathlib.Core.Path.{sym, ap}
 use Rattle.patterns.specs.Replies.{answerOf}
 use borrow.Author.Needs.{needs}
-use Rattle.code_entries.proofs.as_successor.Statement.{statement}
-use Rattle.code_entries.proofs.as_successor.Tie as tie
+use Rattle.successor_entry.proofs.as_successor.Statement.{statement}
+use Rattle.successor_entry.proofs.as_successor.Tie as tie
 
 enum-known-reply : tie.Need-enum-known-reply
 enum-known-reply c = search needs

@@ -4,10 +4,10 @@ use Prim.Native.Nat.{ℕ}
 use native.Mathlib.Omega.{arith}
 use lib.ListN.{length-take}
 use Rattle.acceptance.proofs.Taken.{Taken, code-taken, code-refused, taken-points}
-use Rattle.code_entries.proofs.CodesPut.{taken-next, successor-refused, successor-put}
+use Rattle.successor_entry.proofs.NextPut.{taken-next, successor-refused, successor-put}
 use borrow.Author.Needs.{needs}
-use Rattle.code_entries.proofs.successor.Statement.{statement}
-use Rattle.code_entries.proofs.successor.Tie as tie
+use Rattle.successor_entry.proofs.successor.Statement.{statement}
+use Rattle.successor_entry.proofs.successor.Tie as tie
 
 -- the places that the needs speak of, each named once
 abbrev start : tie.After-accept-into → tie.Start
