@@ -40,4 +40,3 @@ module _ (n : ℕ) where
         → ((S : System) → Holds S sizes trees → Replied (gives (written S)) before a after) → Replied (firstOf n) before a after
     unfolding firstOf
     first-put {before} {after} {a} p = rw (le-ltb 200 n small, codes-first n) (p (replicate n (point ∷ [])) first-holds)
-

@@ -2,10 +2,10 @@ use mathlib.Core.Path.{sym, _∙_, subst}
 use mir.Syntax.{w64}
 use mir.Val.{SFits}
 use mir.ValLaws.{toZ-ofZ}
-use Rattle.c_interface.proofs.Fitting.{refused-fits, negated}
+use Rattle.signed_replies.proofs.Fitting.{refused-fits, negated}
 use borrow.Author.Needs.{needs}
-use Rattle.c_interface.proofs.refusal.Statement.{statement}
-use Rattle.c_interface.proofs.refusal.Tie as tie
+use Rattle.signed_replies.proofs.refusal.Statement.{statement}
+use Rattle.signed_replies.proofs.refusal.Tie as tie
 
 number-requires : tie.Need-number-requires
 number-requires c κs = search needs
