@@ -3,10 +3,10 @@ use Prim.Native.Nat.{ℕ, _-_}
 use native.Mathlib.Omega.{arith}
 use borrow.Author.Needs.{needs}
 use Rattle.patterns.specs.Component.{Component}
-use Rattle.reading.proofs.ComponentsRead.{ComponentAt, component-at, component-bytes}
-use Rattle.reading.proofs.ComponentsRead.{Gathering, gathering-start, gathering-room, gathering-next, gathering-refused, gathering-over, gathering-end}
-use Rattle.reading.proofs.read_components.Statement.{statement}
-use Rattle.reading.proofs.read_components.Tie as tie
+use Rattle.component_reading.proofs.ComponentsRead.{ComponentAt, component-at, component-bytes}
+use Rattle.component_reading.proofs.ComponentsRead.{Gathering, gathering-start, gathering-room, gathering-next, gathering-refused, gathering-over, gathering-end}
+use Rattle.component_reading.proofs.read_components.Statement.{statement}
+use Rattle.component_reading.proofs.read_components.Tie as tie
 
 abbrev Inv-loop : tie.InvT-loop
 Inv-loop s at m left sizes₀ trees₀ next₀ rest₀ i₀ sizes trees next rest i = Gathering s sizes₀ trees₀ at m left sizes trees next rest i

@@ -26,7 +26,7 @@ use Rattle.written.proofs.Placing.{placed-length}
 use Rattle.tree_reading.specs.declared.Read.{Read}
 use Rattle.tree_reading.specs.declared.Read.the-variants.{Past, Refused}
 use Rattle.tree_reading.specs.Walking.{walkedAll, readComponent}
-use Rattle.reading.specs.Shape.{MemoryRoom, ReadInto}
+use Rattle.component_reading.specs.ReadComponents.{MemoryRoom, ReadInto}
 use Rattle.form_theory.proofs.Results.{Good, good-weaken, good-done, or-false, mapped-none, mapped-more}
 use Rattle.form_theory.proofs.ReadFrom.{TreesOf, trees-good}
 use Rattle.tree_reading.proofs.Narrowing.{flat-small}
