@@ -4,7 +4,7 @@ use patterns::Refusal;
 use patterns::Reply;
 use patterns::points_room;
 use reading::Accepted;
-use systems::first_system;
+use size_lists::first_system;
 use writing::put_system;
 ghost use denote.Ref.{now};
 ghost use mathlib.Core.Path.{_≡_};

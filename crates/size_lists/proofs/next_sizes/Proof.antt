@@ -3,9 +3,9 @@ use Prim.Native.Nat.{_+_, _-_}
 use native.Mathlib.Omega.{arith}
 use borrow.Author.Needs.{needs}
 use lib.ListN.{length}
-use Rattle.systems.proofs.Growing.{Growing, next-short, growing-start, growing-next, growing-end}
-use Rattle.systems.proofs.next_sizes.Statement.{statement}
-use Rattle.systems.proofs.next_sizes.Tie as tie
+use Rattle.size_lists.proofs.Growing.{Growing, next-short, growing-start, growing-next, growing-end}
+use Rattle.size_lists.proofs.next_sizes.Statement.{statement}
+use Rattle.size_lists.proofs.next_sizes.Tie as tie
 
 abbrev Inv-loop : tie.InvT-loop
 Inv-loop sizes₀ m i₀ a b least left₀ sizes i left = Growing sizes₀ m least sizes i left

@@ -21,7 +21,7 @@ use Rattle.patterns.proofs.Trees.{length-flat}
 use Rattle.component_theory.proofs.Generation.{cycle-points}
 use Rattle.system_theory.specs.Step.{cycle, fill, fills}
 use Rattle.memory.specs.Memory.{Holds}
-use Rattle.systems.specs.Held.{sum, fillTrees}
+use Rattle.size_lists.specs.SizesHeld.{sum, fillTrees}
 use Rattle.system_theory.proofs.Firsts.{codes-first}
 
 -- The first system.

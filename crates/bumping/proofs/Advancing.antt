@@ -17,9 +17,9 @@ use Rattle.component_theory.proofs.Successor.{successor-valid}
 use Rattle.generation.specs.HeldNodes.{Node, Gave}
 use Rattle.system_theory.specs.Step.{fills}
 use Rattle.memory.specs.Memory.{Holds}
-use Rattle.systems.specs.Held.{sum, fillTrees}
-use Rattle.stepping.specs.HeldSteps.{HeldAhead, Advanced}
-use Rattle.systems.proofs.Filling.{flat-fills, fill-here}
+use Rattle.size_lists.specs.SizesHeld.{sum, fillTrees}
+use Rattle.bumping.specs.HeldBumps.{HeldAhead, Advanced}
+use Rattle.size_lists.proofs.Filling.{flat-fills, fill-here}
 use Rattle.memory.proofs.Parts.{held-points, held-unique}
 
 -- a part in front of a list

@@ -4,9 +4,9 @@ use Prim.Native.Nat.{_-_}
 use native.Mathlib.Omega.{arith}
 use borrow.Author.Needs.{needs}
 use lib.ListN.{length}
-use Rattle.systems.proofs.Filling.{Filling, filling-start, filling-fits, filling-next, filling-end}
-use Rattle.systems.proofs.fill_right.Statement.{statement}
-use Rattle.systems.proofs.fill_right.Tie as tie
+use Rattle.size_lists.proofs.Filling.{Filling, filling-start, filling-fits, filling-next, filling-end}
+use Rattle.size_lists.proofs.fill_right.Statement.{statement}
+use Rattle.size_lists.proofs.fill_right.Tie as tie
 
 abbrev Inv-loop : tie.InvT-loop
 Inv-loop d sizes trees₀ i₀ at₀ trees i at = Filling d sizes trees i at

@@ -4,11 +4,11 @@ use mathlib.Core.List.{List}
 use Prim.Native.Nat.{ℕ}
 use native.Mathlib.Omega.{arith}
 use lib.ListN.{length, getD, drop}
-use Rattle.stepping.proofs.Advancing.{front-fits, front-length, ahead-some, ahead-fits, ahead-sum, ahead-length, ahead-up, ahead-side, ahead-out, ahead-node}
-use Rattle.stepping.proofs.Advancing.{advance-none, advance-some}
+use Rattle.bumping.proofs.Advancing.{front-fits, front-length, ahead-some, ahead-fits, ahead-sum, ahead-length, ahead-up, ahead-side, ahead-out, ahead-node}
+use Rattle.bumping.proofs.Advancing.{advance-none, advance-some}
 use borrow.Author.Needs.{needs}
-use Rattle.stepping.proofs.advance.Statement.{statement}
-use Rattle.stepping.proofs.advance.Tie as tie
+use Rattle.bumping.proofs.advance.Statement.{statement}
+use Rattle.bumping.proofs.advance.Tie as tie
 
 -- The places at which something is learnt: the size is read, and the successor is asked for. Later places lead down to them.
 abbrev start : tie.After-shared-slice-known2 → tie.Start

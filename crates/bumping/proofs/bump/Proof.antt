@@ -6,9 +6,9 @@ use borrow.Author.Needs.{needs}
 use lib.ListN.{length, getD}
 use Rattle.patterns.specs.System.{System}
 use Rattle.memory.specs.Memory.{Holds}
-use Rattle.stepping.proofs.Scanning.{Scanning, bump-start, bump-same, bump-end, bump-index, bump-size, bump-place, bump-ahead, bump-next, bump-found}
-use Rattle.stepping.proofs.bump.Statement.{statement}
-use Rattle.stepping.proofs.bump.Tie as tie
+use Rattle.bumping.proofs.Scanning.{Scanning, bump-start, bump-same, bump-end, bump-index, bump-size, bump-place, bump-ahead, bump-next, bump-found}
+use Rattle.bumping.proofs.bump.Statement.{statement}
+use Rattle.bumping.proofs.bump.Tie as tie
 
 abbrev Inv-loop : tie.InvT-loop
 Inv-loop sizes trees₀ up₀ side₀ out₀ i₀ at₀ trees up side out i at =

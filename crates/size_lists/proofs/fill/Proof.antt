@@ -2,10 +2,10 @@ use denote.Ref.{now}
 use mathlib.Core.Path.{sym, _∙_}
 use native.Mathlib.Omega.{arith}
 use lib.ListN.{length}
-use Rattle.systems.proofs.Filling.{fill-copied, fill-other}
+use Rattle.size_lists.proofs.Filling.{fill-copied, fill-other}
 use borrow.Author.Needs.{needs}
-use Rattle.systems.proofs.fill.Statement.{statement}
-use Rattle.systems.proofs.fill.Tie as tie
+use Rattle.size_lists.proofs.fill.Statement.{statement}
+use Rattle.size_lists.proofs.fill.Tie as tie
 
 copy-requires : tie.Need-copy-requires
 copy-requires c κs = search needs

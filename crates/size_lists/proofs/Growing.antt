@@ -14,7 +14,7 @@ use Rattle.lists.specs.Select.{each}
 use Rattle.lists.proofs.Tests.{and-true, each-head, each-tail, each-append}
 use Rattle.lists.proofs.Permute.{total-append}
 use Rattle.system_theory.specs.Step.{leastSizes, nextSizes}
-use Rattle.systems.specs.Held.{sum, SizesIn, NextIn}
+use Rattle.size_lists.specs.SizesHeld.{sum, SizesIn, NextIn}
 use Rattle.system_theory.proofs.Sizes.{least-alone, least-more}
 use Rattle.system_theory.proofs.StepScan.{nextSizes-at}
 

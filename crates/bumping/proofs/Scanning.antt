@@ -16,12 +16,12 @@ use Rattle.component_theory.specs.Successor.{successor}
 use Rattle.component_theory.proofs.Successor.{successor-valid}
 use Rattle.system_theory.specs.Step.{fills, bump}
 use Rattle.memory.specs.Memory.{Holds}
-use Rattle.stepping.specs.HeldSteps.{HeldAhead, Advanced, HeldCanonical, Bumped}
+use Rattle.bumping.specs.HeldBumps.{HeldAhead, Advanced, HeldCanonical, Bumped}
 use Rattle.system_theory.proofs.Canonical.{canonical-parts}
 use Rattle.system_theory.proofs.StepScan.{bump-pass, bump-at}
-use Rattle.systems.proofs.Filling.{fills-points}
+use Rattle.size_lists.proofs.Filling.{fills-points}
 use Rattle.memory.proofs.Parts.{weight-next, weight-cut, front-trees, rest-trees, held-size, held-count, held-points, held-unique}
-use Rattle.stepping.proofs.Advancing.{advanced-none, advanced-some}
+use Rattle.bumping.proofs.Advancing.{advanced-none, advanced-some}
 
 -- The system from a component on.
 

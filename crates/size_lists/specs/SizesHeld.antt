@@ -7,7 +7,6 @@ use Prim.Native.Nat.{ℕ, _≤_, _<_}
 use lib.Dec.{ltb, eqb}
 use lib.ListN.{length, take, replicate}
 use Rattle.lists.specs.Select.{each, total}
-use Rattle.patterns.specs.Component.{points}
 
 abbrev pub sum : List ℕ → ℕ
 sum l = total (λ s. s) l

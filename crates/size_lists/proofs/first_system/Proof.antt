@@ -1,10 +1,10 @@
 use denote.Ref.{now}
 use mathlib.Core.Path.{ap, sym, _∙_}
 use lib.ListN.{length, replicate}
-use Rattle.systems.proofs.Filling.{first-held}
+use Rattle.size_lists.proofs.Filling.{first-held}
 use borrow.Author.Needs.{needs}
-use Rattle.systems.proofs.first_system.Statement.{statement}
-use Rattle.systems.proofs.first_system.Tie as tie
+use Rattle.size_lists.proofs.first_system.Statement.{statement}
+use Rattle.size_lists.proofs.first_system.Tie as tie
 
 abbrev start : tie.After-set-all → tie.Start
 start c = c .before .before .before .before
