@@ -2,11 +2,11 @@ use denote.Ref.{now}
 use mathlib.Core.Path.{ap, sym, _∙_}
 use lib.ListN.{length-take}
 use Rattle.lists.specs.Blocks.{orderingOf}
-use Rattle.arrangement.proofs.LeastTurn.{between-less, between-greater, between-then-less, between-then-greater, between-last}
+use Rattle.rotation.proofs.LeastTurn.{between-less, between-greater, between-then-less, between-then-greater, between-last}
 use native.Mathlib.Omega.{arith}
 use borrow.Author.Needs.{needs}
-use Rattle.arrangement.proofs.at_most_between.Statement.{statement}
-use Rattle.arrangement.proofs.at_most_between.Tie as tie
+use Rattle.rotation.proofs.at_most_between.Statement.{statement}
+use Rattle.rotation.proofs.at_most_between.Tie as tie
 
 sub-d : tie.Need-sub-d
 sub-d c = search needs

@@ -19,7 +19,7 @@ use Rattle.patterns.specs.Component.{Component, points, flat, compareComponent,
 use Rattle.patterns.proofs.Trees.{size-positive, length-flat, flat-append, points-append, compareComponent-lawful, compareComponent-flat}
 use Rattle.patterns.proofs.Rotations.{cuts, rotation-append}
 use Rattle.trees.proofs.Walks.{Along, Next, along-step, along-end, no-trees}
-use Rattle.arrangement.specs.Arrangement.{LeastStart}
+use Rattle.rotation.specs.LeastStart.{LeastStart}
 
 -- a part of a list, and what follows it
 drop-part : {A : Type 0} (s : List A) (a e : ℕ) → a ≤ e → drop a s ≡ take (e - a) (drop a s) ++ drop e s

@@ -4,11 +4,11 @@ use mathlib.Core.Path.{sym, _∙_}
 use Prim.Native.Nat.{_-_}
 use lib.ListN.{length}
 use Rattle.trees.proofs.Walks.{Along, along-start, along-next}
-use Rattle.arrangement.proofs.LeastTurn.{Best, best-start, best-within, best-kept, best-moved, best-end, least-already}
+use Rattle.rotation.proofs.LeastTurn.{Best, best-start, best-within, best-kept, best-moved, best-end, least-already}
 use native.Mathlib.Omega.{arith}
 use borrow.Author.Needs.{needs}
-use Rattle.arrangement.proofs.least_start.Statement.{statement}
-use Rattle.arrangement.proofs.least_start.Tie as tie
+use Rattle.rotation.proofs.least_start.Statement.{statement}
+use Rattle.rotation.proofs.least_start.Tie as tie
 
 abbrev Inv-loop : tie.InvT-loop
 Inv-loop s best₀ p₀ best p = Along s p (Best best)
