@@ -4,8 +4,8 @@ use mathlib.Core.Path.{_≡_}
 use mathlib.Core.List.{List}
 use Prim.Native.Nat.{ℕ, _≤_}
 use Rattle.patterns.specs.ListingText.{countLine}
-use Rattle.listing.specs.declared.Parsed.{Parsed}
-use Rattle.listing.specs.declared.Parsed.the-variants.{Count, Bad}
+use Rattle.count_line.specs.declared.Parsed.{Parsed}
+use Rattle.count_line.specs.declared.Parsed.the-variants.{Count, Bad}
 
 -- the good inputs are the lines of 0 to 14
 pub data Reads (input : List ℕ) : Parsed → Type 0 where

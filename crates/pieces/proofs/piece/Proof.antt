@@ -5,9 +5,9 @@ use native.Mathlib.Omega.{arith}
 use lib.ListN.{length}
 use borrow.Author.Needs.{needs}
 use Rattle.lister.specs.Remaining.{remaining}
-use Rattle.listing.proofs.FilledPieces.{Filling, filling-starts, filling-more, filling-done, filling-full}
-use Rattle.listing.proofs.piece.Statement.{statement}
-use Rattle.listing.proofs.piece.Tie as tie
+use Rattle.pieces.proofs.FilledPieces.{Filling, filling-starts, filling-more, filling-done, filling-full}
+use Rattle.pieces.proofs.piece.Statement.{statement}
+use Rattle.pieces.proofs.piece.Tie as tie
 
 abbrev Inv-loop : tie.InvT-loop
 Inv-loop out₀ at₀ next₀ out at next = Filling (remaining next₀) out₀ out at next

@@ -2,11 +2,11 @@ use denote.Ref.{now}
 use Prim.Native.Nat.{_-_}
 use native.Mathlib.Omega.{arith}
 use lib.ListN.{getD}
-use Rattle.listing.specs.Count.{good, bad}
-use Rattle.listing.proofs.Inputs.{one-digit, two-digits, no-line}
+use Rattle.count_line.specs.Count.{good, bad}
+use Rattle.count_line.proofs.Inputs.{one-digit, two-digits, no-line}
 use borrow.Author.Needs.{needs}
-use Rattle.listing.proofs.parse.Statement.{statement}
-use Rattle.listing.proofs.parse.Tie as tie
+use Rattle.count_line.proofs.parse.Statement.{statement}
+use Rattle.count_line.proofs.parse.Tie as tie
 
 shared-slice-read-if2 : tie.Need-shared-slice-read-if2
 shared-slice-read-if2 c = search needs

@@ -1,6 +1,6 @@
 -- A buffer is filled line by line: what stands in it, then the text that is to come, is always the whole text.
 use mathlib.Core.Path.{_≡_, refl, ap, sym, _∙_}
-use mathlib.Core.List.{List, [], _∷_, _++_, append-nil}
+use mathlib.Core.List.{List, [], _∷_, _++_}
 use Prim.Native.Nat.{ℕ, _+_, _-_, _≤_, _<_}
 use native.Mathlib.Omega.{arith}
 use lib.Dec.{ltb}
@@ -13,7 +13,7 @@ use Rattle.lister.specs.declared.Step.{Step}
 use Rattle.lister.specs.Remaining.{remaining}
 use Rattle.lister.specs.Good.{Good}
 use Rattle.lister.specs.Put.{Put}
-use Rattle.listing.specs.Pieces.{Filled, FirstPiece}
+use Rattle.pieces.specs.Filled.{Filled}
 
 -- out has t up to at, and next stands for the rest
 pub record Filling (t out₀ out : List ℕ) (at : ℕ) (next : State) : Type 0 where
@@ -91,20 +91,6 @@ module _ {t out₀ out : List ℕ} {at : ℕ} {next : State} (l : Filling t out�
         };
         whole = λ k. no-text (remaining (r .next)) nothing-after;
       }
-
--- the first piece of a text, and none where there is too little room
-pub first-piece : {t u before after : List ℕ} (r : Step) → t ≡ u → Filled t before r after → 4096 ≤ length before → FirstPiece u before (r .len) after
-first-piece {t} {u} {before} {after} r e p h = record {
-  rest = remaining (r .next);
-  text = p .put .text ∙ e;
-  within = p .put .within;
-  short = λ k. absurd (omega arith);
-  whole = λ k. sym (append-nil (take (r .len) after)) ∙ ap (take (r .len) after ++_) (sym (p .whole (omega (arith, ap length e)))) ∙ p .put .text ∙ e;
-}
-
-pub no-piece : (t before : List ℕ) → length before < 4096 → FirstPiece t before 0 before
-no-piece t before h =
-    record { rest = t; text = refl; within = omega arith; short = λ k. (refl, refl); whole = λ k. absurd (omega arith) }
 
 -- an empty piece says that nothing was left, and nothing is
 pub empty-piece : (t : List ℕ) {before after : List ℕ} (r : Step) → Put t 0 before r after → r .len ≡ 0 → t ≡ []
