@@ -22,12 +22,12 @@ use Rattle.code_entries.proofs.first.Reads as first
 use Rattle.code_entries.proofs.first.Kinds as first-kinds
 use Rattle.successor_entry.proofs.successor.Reads as successor
 use Rattle.successor_entry.proofs.successor.Kinds as successor-kinds
-use Rattle.map_entries.proofs.code_of_map.Reads as code-of-map
-use Rattle.map_entries.proofs.code_of_map.Kinds as code-of-map-kinds
+use Rattle.coding_entry.proofs.code_of_map.Reads as code-of-map
+use Rattle.coding_entry.proofs.code_of_map.Kinds as code-of-map-kinds
 use Rattle.decoding_entry.proofs.map_of_code.Reads as map-of-code
 use Rattle.decoding_entry.proofs.map_of_code.Kinds as map-of-code-kinds
-use Rattle.map_entries.proofs.isomorphism.Reads as isomorphism
-use Rattle.map_entries.proofs.isomorphism.Kinds as isomorphism-kinds
+use Rattle.isomorphism_entry.proofs.isomorphism.Reads as isomorphism
+use Rattle.isomorphism_entry.proofs.isomorphism.Kinds as isomorphism-kinds
 use Rattle.census_entries.proofs.census as census
 use Rattle.census_entries.proofs.census_columns.Reads as census-columns
 use Rattle.census_entries.proofs.census_columns.Kinds as census-columns-kinds
