@@ -14,7 +14,8 @@ use Rattle.patterns.specs.System.{System}
 use Rattle.patterns.proofs.Trees.{length-flat}
 use Rattle.component_theory.specs.Successor.{successor}
 use Rattle.component_theory.proofs.Successor.{successor-valid}
-use Rattle.generation.specs.HeldNodes.{Node, Gave}
+use Rattle.children.specs.Candidates.{Gave}
+use Rattle.generation.specs.HeldNodes.{Node}
 use Rattle.system_theory.specs.Step.{fills}
 use Rattle.memory.specs.Memory.{Holds}
 use Rattle.size_lists.specs.SizesHeld.{sum, fillTrees}

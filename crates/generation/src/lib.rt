@@ -1,53 +1,16 @@
-// The children of a component [document 004, Lemma 12].
-// A component is flat: a slice of as many bytes as it has points, the codes of its trees one after another.
-use components::has_least_rotation;
-use trees::at_most;
+// The search for the children of a component, in their order [document 004, Lemma 12]. A component is flat: a byte for each point.
+use children::left_child;
+use children::right_child;
 use trees::count;
-use trees::last_branch;
 use trees::leading;
-use trees::merge_left;
-use trees::merge_right;
 ghost use denote.Ref.{now};
 ghost use mathlib.Core.Path.{_≡_};
-ghost use Prim.Native.Nat.{ℕ, suc, _+_, _≤_};
-ghost use lib.ListN.{length};
-ghost use Rattle.lists.specs.Select.{first};
+ghost use Prim.Native.Nat.{_+_, _≤_};
 ghost use Rattle.patterns.specs.Component.{Component, flat};
 ghost use Rattle.component_theory.specs.Successor.{firstChild};
-ghost use Rattle.component_theory.specs.ChildPlaces.{childAt, childFrom};
-ghost use Rattle.generation.specs.HeldNodes.{Node, AsLong, HeldCandidate, HeldScan, Gave, Passed};
-
-// The left merge at `i`, where it is a child.
-pub fn left_child(s: &[u8], i: usize, out: &mut [u8]) -> bool
-    requires { ⌜ HeldCandidate (now s) i (now out) ⌝ }
-    ensures { λ r. ⌜ ((c : Component) → now (s .entry) ≡ flat c → Gave (first (childAt c i)) r (now (out .exit))) ⌝ }
-{
-    let j = i + s[i] as usize;
-    let e = j + s[j] as usize;
-    if !at_most(&s[i..j], &s[j..e]) {
-        return false;
-    }
-    merge_left(s, i, out);
-    has_least_rotation(out)
-}
-
-// The right merge at `i`, where it is a child and not the left merge too.
-pub fn right_child(s: &[u8], i: usize, out: &mut [u8]) -> bool
-    requires { ⌜ HeldCandidate (now s) i (now out) ⌝ }
-    ensures { λ r. ⌜ ((c : Component) (n : ℕ) → now (s .entry) ≡ flat c → length c ≡ suc n → Gave (first (childAt c (n + i))) r (now (out .exit))) ⌝ }
-{
-    let j = i + s[i] as usize;
-    let e = j + s[j] as usize;
-    if at_most(&s[j..e], &s[i..j]) {
-        return false;
-    }
-    let l = j + last_branch(&s[j..e]);
-    if at_most(&s[l..e], &s[i..j]) {
-        merge_right(s, i, out);
-        return has_least_rotation(out);
-    }
-    false
-}
+ghost use Rattle.component_theory.specs.ChildPlaces.{childFrom};
+ghost use Rattle.children.specs.Candidates.{Gave};
+ghost use Rattle.generation.specs.HeldNodes.{Node, AsLong, HeldScan, Passed};
 
 // The first child among the left merges from place `from` on.
 pub fn scan_left(s: &[u8], from: usize, pairs: usize, lead: usize, out: &mut [u8]) -> bool

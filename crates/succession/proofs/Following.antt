@@ -27,7 +27,8 @@ use Rattle.component_theory.specs.Path.{key}
 use Rattle.component_theory.specs.ChildPlaces.{childFrom}
 use Rattle.component_theory.proofs.ChildPlaces.{nextSibling-place, length-candidates}
 use Rattle.component_theory.proofs.Generation.{length-points, valid-positive}
-use Rattle.generation.specs.HeldNodes.{Node, Gave}
+use Rattle.children.specs.Candidates.{Gave}
+use Rattle.generation.specs.HeldNodes.{Node}
 use Rattle.succession.specs.Siblings.{Beside}
 use Rattle.succession.specs.declared.Sibling.{Sibling}
 use Rattle.succession.specs.declared.Sibling.the-variants.{Root, Last, Next}

@@ -7,7 +7,7 @@ use Prim.Native.Nat.{ℕ}
 use Rattle.patterns.specs.Component.{Component, flat}
 use Rattle.patterns.specs.Generation.{hasParent, parent}
 use Rattle.component_theory.specs.Successor.{nextSibling}
-use Rattle.generation.specs.HeldNodes.{Gave}
+use Rattle.children.specs.Candidates.{Gave}
 use Rattle.succession.specs.declared.Sibling.{Sibling}
 use Rattle.succession.specs.declared.Sibling.the-variants.{Root, Last, Next}
 

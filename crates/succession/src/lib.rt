@@ -11,7 +11,8 @@ ghost use Prim.Native.Nat.{_+_};
 ghost use Rattle.lists.specs.Select.{first};
 ghost use Rattle.patterns.specs.Component.{Component, flat};
 ghost use Rattle.component_theory.specs.Successor.{opening as openingOf, afterEven, afterOdd, successor as successorOf};
-ghost use Rattle.generation.specs.HeldNodes.{Node, AsLong, Gave};
+ghost use Rattle.children.specs.Candidates.{Gave};
+ghost use Rattle.generation.specs.HeldNodes.{Node, AsLong};
 ghost use Rattle.succession.specs.Siblings.{Beside};
 
 // Beside a component: it has no parent, it is its parent's last child, or it has a next sibling.

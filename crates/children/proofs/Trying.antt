@@ -16,7 +16,7 @@ use Rattle.trees.proofs.Walks.{lastStart-within}
 use Rattle.component_theory.proofs.Keys.{isLeast}
 use Rattle.component_theory.specs.ChildPlaces.{childAt}
 use Rattle.component_theory.proofs.ChildPlaces.{childAt-left, childAt-right}
-use Rattle.generation.specs.HeldNodes.{Gave, HeldCandidate}
+use Rattle.children.specs.Candidates.{Gave, HeldCandidate}
 use Rattle.trees.proofs.Merging.{that-size, this-stretch, that-stretch, last-stretch, last-branch-atMost}
 
 -- a candidate that passes is given

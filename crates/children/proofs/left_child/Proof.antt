@@ -3,9 +3,9 @@ use native.Mathlib.Omega.{arith}
 use borrow.Author.Needs.{needs}
 use Rattle.lists.proofs.Tests.{not-of-true, not-of-false}
 use Rattle.trees.proofs.Merging.{reach}
-use Rattle.generation.proofs.Trying.{leftMerge, left-refused, left-tested}
-use Rattle.generation.proofs.left_child.Statement.{statement}
-use Rattle.generation.proofs.left_child.Tie as tie
+use Rattle.children.proofs.Trying.{leftMerge, left-refused, left-tested}
+use Rattle.children.proofs.left_child.Statement.{statement}
+use Rattle.children.proofs.left_child.Tie as tie
 
 -- where both trees have been found, where they have been compared, and where they have been merged
 abbrev start : tie.After-shared-slice-known3 → tie.Start

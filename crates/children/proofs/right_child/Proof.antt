@@ -5,10 +5,10 @@ use native.Mathlib.Omega.{arith}
 use borrow.Author.Needs.{needs}
 use lib.ListN.{getD}
 use Rattle.trees.proofs.Merging.{reach}
-use Rattle.generation.proofs.Trying.{rightMerge, that-is, last-within, right-refused, right-unsorted, right-tested}
+use Rattle.children.proofs.Trying.{rightMerge, that-is, last-within, right-refused, right-unsorted, right-tested}
 use Rattle.trees.specs.Beginnings.{lastStart}
-use Rattle.generation.proofs.right_child.Statement.{statement}
-use Rattle.generation.proofs.right_child.Tie as tie
+use Rattle.children.proofs.right_child.Statement.{statement}
+use Rattle.children.proofs.right_child.Tie as tie
 
 -- where both trees have been found, and where they have been compared
 abbrev start : tie.After-shared-slice-known3 → tie.Start
