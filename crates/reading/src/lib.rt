@@ -1,10 +1,10 @@
 // Reading a written code into memory [document 01, "Refusing"]: the shape of the whole, left to right, the first fault deciding.
 // Whether the system is canonical is not asked here.
 use component_reading::read_components;
+use cutting::Cut;
+use cutting::cut_into;
 use patterns::Refusal;
 use tree_reading::Read;
-use written::Cut;
-use written::cut_into;
 ghost use denote.Ref.{now};
 ghost use mathlib.Core.Path.{_≡_};
 ghost use mathlib.Core.List.{List};

@@ -6,11 +6,11 @@ use Prim.Native.Nat.{ℕ, _-_}
 use native.Mathlib.Omega.{arith}
 use borrow.Author.Needs.{needs}
 use lib.ListN.{length, drop}
-use Rattle.written.specs.declared.Cut.the-variants.{Number}
-use Rattle.written.specs.Cutting.{headCut, CutInto}
-use Rattle.written.proofs.Cutting.{Cutting, cutting-start, cutting-take, cutting-pass, cutting-refused, cutting-end, cut-number, number-small}
-use Rattle.written.proofs.cut_into.Statement.{statement}
-use Rattle.written.proofs.cut_into.Tie as tie
+use Rattle.cutting.specs.declared.Cut.the-variants.{Number}
+use Rattle.cutting.specs.Cutting.{headCut, CutInto}
+use Rattle.cutting.proofs.Cutting.{Cutting, cutting-start, cutting-take, cutting-pass, cutting-refused, cutting-end, cut-number, number-small}
+use Rattle.cutting.proofs.cut_into.Statement.{statement}
+use Rattle.cutting.proofs.cut_into.Tie as tie
 
 abbrev Inv-loop : tie.InvT-loop
 Inv-loop s out₀ at₀ n₀ out at n = Cutting s out₀ out at n

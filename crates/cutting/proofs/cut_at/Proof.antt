@@ -3,9 +3,9 @@ use mathlib.Core.Path.{sym}
 use Prim.Native.Nat.{_+_}
 use native.Mathlib.Omega.{arith}
 use borrow.Author.Needs.{needs}
-use Rattle.written.proofs.Cutting.{head-one, head-ended, head-zero, head-high, head-two}
-use Rattle.written.proofs.cut_at.Statement.{statement}
-use Rattle.written.proofs.cut_at.Tie as tie
+use Rattle.cutting.proofs.Cutting.{head-one, head-ended, head-zero, head-high, head-two}
+use Rattle.cutting.proofs.cut_at.Statement.{statement}
+use Rattle.cutting.proofs.cut_at.Tie as tie
 
 shared-slice-read-first : tie.Need-shared-slice-read-first
 shared-slice-read-first c = search needs

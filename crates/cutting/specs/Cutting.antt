@@ -7,8 +7,8 @@ use lib.Dec.{ltb, leb, eqb}
 use lib.ListN.{length, take, drop}
 use Rattle.patterns.specs.declared.Refusal.the-variants.{Truncated, NumberForm}
 use Rattle.patterns.specs.Reading.{Result, done, fault, cut}
-use Rattle.written.specs.declared.Cut.{Cut}
-use Rattle.written.specs.declared.Cut.the-variants.{Number, Refused}
+use Rattle.cutting.specs.declared.Cut.{Cut}
+use Rattle.cutting.specs.declared.Cut.the-variants.{Number, Refused}
 
 -- the number with which the bytes from place `at` on begin, and the place after it
 abbrev pub headCut : ℕ → List ℕ → Cut

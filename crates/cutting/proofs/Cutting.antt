@@ -14,9 +14,9 @@ use Rattle.lists.proofs.Places.{drop-one}
 use Rattle.patterns.specs.declared.Refusal.{Refusal}
 use Rattle.patterns.specs.declared.Refusal.the-variants.{Truncated, NumberForm}
 use Rattle.patterns.specs.Reading.{Result, done, fault, mapped, cut}
-use Rattle.written.specs.declared.Cut.{Cut}
-use Rattle.written.specs.declared.Cut.the-variants.{Number, Refused}
-use Rattle.written.specs.Cutting.{headCut, cutReply, stored, CutInto}
+use Rattle.cutting.specs.declared.Cut.{Cut}
+use Rattle.cutting.specs.declared.Cut.the-variants.{Number, Refused}
+use Rattle.cutting.specs.Cutting.{headCut, cutReply, stored, CutInto}
 
 -- The number at a place, by what its bytes are.
 
