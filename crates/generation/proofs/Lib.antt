@@ -1,2 +1,3 @@
 -- The laws that the functions of this crate rest on.
 pub mod Scanning
+pub mod Relatives

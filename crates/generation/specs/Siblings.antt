@@ -8,8 +8,8 @@ use Rattle.patterns.specs.Component.{Component, flat}
 use Rattle.patterns.specs.Generation.{hasParent, parent}
 use Rattle.component_theory.specs.Successor.{nextSibling}
 use Rattle.children.specs.Candidates.{Gave}
-use Rattle.succession.specs.declared.Sibling.{Sibling}
-use Rattle.succession.specs.declared.Sibling.the-variants.{Root, Last, Next}
+use Rattle.generation.specs.declared.Sibling.{Sibling}
+use Rattle.generation.specs.declared.Sibling.the-variants.{Root, Last, Next}
 
 -- beside c: no parent; or the parent in one buffer, and then no next sibling, or the next sibling in the other
 abbrev pub Beside : Component → Sibling → List ℕ → List ℕ → Type 0

@@ -2,9 +2,9 @@ use denote.Ref.{now}
 use mathlib.Core.Path.{sym, _∙_}
 use native.Mathlib.Omega.{arith}
 use borrow.Author.Needs.{needs}
-use Rattle.succession.proofs.Following.{climbed-root, Raised, raised, up-node, up-key, beside-next, beside-last}
-use Rattle.succession.proofs.next_sibling.Statement.{statement}
-use Rattle.succession.proofs.next_sibling.Tie as tie
+use Rattle.generation.proofs.Relatives.{climbed-root, Raised, raised, up-node, up-key, beside-next, beside-last}
+use Rattle.generation.proofs.next_sibling.Statement.{statement}
+use Rattle.generation.proofs.next_sibling.Tie as tie
 
 -- the step up, and its key
 abbrev start : tie.After-parent → tie.Start

@@ -3,9 +3,9 @@ use mathlib.Core.Path.{ap, sym, _∙_}
 use borrow.Author.Needs.{needs}
 use Rattle.lists.proofs.Tests.{not-of-true, not-of-false}
 use Rattle.patterns.specs.Component.{flat}
-use Rattle.succession.proofs.Following.{opening-child, opening-self}
-use Rattle.succession.proofs.opening.Statement.{statement}
-use Rattle.succession.proofs.opening.Tie as tie
+use Rattle.generation.proofs.Relatives.{opening-child, opening-self}
+use Rattle.generation.proofs.opening.Statement.{statement}
+use Rattle.generation.proofs.opening.Tie as tie
 use Rattle.lists.proofs.Filled.{copied}
 
 returns : tie.Need-returns
