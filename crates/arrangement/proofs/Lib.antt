@@ -1,6 +1,5 @@
 -- The laws that the functions of this crate cite.
 pub mod Planting
 pub mod Inserting
-pub mod LeastTurn
 pub mod ComponentPlaces
 pub mod ComponentInserting

@@ -6,7 +6,7 @@ use Rattle.lists.specs.Sort.{insert}
 use Rattle.memory.specs.Memory.{Stands}
 use Rattle.map_theory.specs.Plants.{Plant, shape, labels, comparePlant, shapes, compareShapes, joined}
 use Rattle.arrangement.specs.declared.Place.{Place}
-use Rattle.patterns.specs.Component.{Component, points, flat, compareComponent, validComponent}
+use Rattle.patterns.specs.Component.{Component, points, flat, validComponent}
 use Rattle.patterns.specs.System.{System, weight, compareGenerated}
 use Rattle.patterns.specs.Tree.{Tree, size, compareTree}
 use Rattle.written.specs.Putting.{placed}
@@ -42,14 +42,6 @@ pub record SiblingsStand (trees labelled : List ℕ) (start end next : ℕ) : Ty
 pub record Inserts (start end next : ℕ) (trees₀ labelled₀ trees labelled : List ℕ) : Type 0 where
   pub inserts : (us : List Plant) (v : Plant) (d e : List ℕ) → next ≤ length d → next ≤ length e → end ≡ start + points (map shape us)
       → Planted (us ++ (v ∷ [])) start d e next trees₀ labelled₀ → Planted (insert comparePlant v us) start d e next trees labelled
-
--- turned to begin at r, c is least
-pub record LeastStart (c : Component) (r : ℕ) : Type 0 where
-  pub front : Component
-  pub back : Component
-  pub cut : c ≡ front ++ back
-  pub place : r ≡ points front
-  pub least : (u v : Component) → c ≡ u ++ v → atMost compareComponent (back ++ front) (v ++ u) ≡ true
 
 -- the components that stand before the first one that c does not come after
 unfoldable pub componentsBefore : Component → System → System

@@ -1,23 +1,19 @@
-// Putting trees and components in their places: sorted in among others, and turned to their least rotation, the labels with them.
-use components::has_least_rotation;
+// Putting trees and components in their places, sorted in among others, the labels with them.
 use lists::Order;
-use lists::compare;
 use lists::exchange;
 use paths::compare_generated;
 use trees::at_most;
 ghost use denote.Ref.{now};
 ghost use mathlib.Core.Path.{_≡_};
-ghost use mathlib.Core.Bool.{true};
-ghost use mathlib.Core.List.{_++_, map};
-ghost use Prim.Native.Nat.{_+_, _≤_, _<_, compare as compareNumbers};
-ghost use lib.ListN.{length, take, drop};
-ghost use Rattle.lists.specs.Order.{lex, atMost};
+ghost use mathlib.Core.List.{map};
+ghost use Prim.Native.Nat.{_+_, _≤_, _<_};
+ghost use lib.ListN.{length};
 ghost use Rattle.lists.specs.Select.{gather};
 ghost use Rattle.patterns.specs.Tree.{Tree, code};
 ghost use Rattle.patterns.specs.Component.{Component, flat, points as pointsOf};
 ghost use Rattle.patterns.specs.System.{System};
 ghost use Rattle.memory.specs.Memory.{Held};
-ghost use Rattle.arrangement.specs.Arrangement.{pointsBefore, SiblingsStand, Inserts, LeastStart};
+ghost use Rattle.arrangement.specs.Arrangement.{pointsBefore, SiblingsStand, Inserts};
 ghost use Rattle.arrangement.specs.Arrangement.{PlaceAsked, PlaceFound, InsertAsked, ComponentInserted};
 
 // How many points those of the trees `siblings` have that stand before the first one that `tree` does not exceed.
@@ -45,44 +41,6 @@ pub fn insert_tree(trees: &mut [u8], labels: &mut [u8], start: usize, end: usize
     let p = start + points_before(&trees[end..next], &trees[start..end]);
     exchange(trees, p, end, next);
     exchange(labels, p, end, next);
-}
-
-// `s` turned to begin at `a` is not greater than `s` turned to begin at `b`.
-fn at_most_between(s: &[u8], a: usize, b: usize) -> bool
-    requires { ⌜ (a ≤ b) × (b ≤ length (now s)) ⌝ }
-    ensures { λ r. ⌜ r ≡ atMost (lex compareNumbers) (drop a (now (s .entry)) ++ take a (now (s .entry))) (drop b (now (s .entry)) ++ take b (now (s .entry))) ⌝ }
-{
-    let n = s.len();
-    let d = b - a;
-    let e = n - d;
-    match compare(&s[a..e], &s[b..n]) {
-        Order::Less => true,
-        Order::Greater => false,
-        Order::Equal => match compare(&s[e..n], &s[..d]) {
-            Order::Less => true,
-            Order::Greater => false,
-            Order::Equal => at_most(&s[..a], &s[d..b]),
-        },
-    }
-}
-
-// Where the least rotation of the component begins. One pass where the component is least already.
-pub fn least_start(s: &[u8]) -> usize
-    requires { ⌜ Held (now s) ⌝ }
-    ensures { λ r. ⌜ ((c : Component) → now (s .entry) ≡ flat c → LeastStart c r) ⌝ }
-{
-    if has_least_rotation(s) {
-        return 0;
-    }
-    let mut best = 0;
-    let mut p = 0;
-    while p < s.len() {
-        if !at_most_between(s, best, p) {
-            best = p;
-        }
-        p += s[p] as usize;
-    }
-    best
 }
 
 // A place among components: how many stand before it, and how many points they have.

@@ -2,49 +2,23 @@
 -- number of a cause is below 100.
 use mathlib.Core.Path.{_≡_, refl, sym, _∙_, ap, subst}
 use mathlib.Core.List.{List}
-use Prim.Native.Nat.{ℕ, zero, suc, _-_, _*_, _≤_, _<_, _^_}
+use Prim.Native.Nat.{ℕ, _*_, _≤_, _<_, _^_}
 use native.Mathlib.Omega.{arith}
 use lib.Dec.{leb}
-use lib.IntN.{ℤ, pos, negℤ, _-ℤ_}
+use lib.IntN.{ℤ}
 use lib.ListN.{length}
 use mir.Syntax.{w64}
-use mir.Val.{SFits, toZ, ofZ}
-use mir.ValLaws.{toZ-pos, toZ-ofZ}
-use borrow.Author.Tests.{le-leb, leb-true}
+use mir.Val.{toZ, ofZ}
+use borrow.Author.Tests.{leb-true}
 use Rattle.lists.proofs.Tests.{by-test}
-use Rattle.patterns.specs.declared.Refusal.{Refusal}
 use Rattle.patterns.specs.declared.Refusal.the-variants.{Room}
 use Rattle.patterns.specs.System.{System, weight}
 use Rattle.patterns.specs.Reading.{Result, done, fault, accepted}
-use Rattle.patterns.specs.Replies.{Answer, length-is, refused, numberOf}
+use Rattle.patterns.specs.Replies.{Answer, length-is}
 use Rattle.patterns.specs.Entry.{Outcome, gives, ends, lacks, fails, answer, answered, Replied, acceptOf, IsomorphismReplied}
 use Rattle.acceptance.proofs.Taken.{accepted-canonical}
-use Rattle.patterns.proofs.Causes.{cause-number}
 use Rattle.patterns.specs.SignedReplies.{signedOf, Reported, IsomorphismReported}
-
-abbrev pub Fits : Answer → Type 0
-Fits a = SFits w64 (signedOf a)
-
--- a number that fits is read back from its bits
-pub read-back : {z y : ℤ} → z ≡ y → SFits w64 y → toZ w64 (ofZ w64 z) ≡ y
-read-back {z} {y} e h = ap (λ x. toZ w64 (ofZ w64 x)) e ∙ toZ-ofZ w64 y h
-
-cause-fits : (c : ℕ) → c < 100 → SFits w64 (negℤ (pos c))
-cause-fits zero h = record { sfits = omega arith }
-cause-fits (suc c) h = record { sfits = omega arith }
-
-pub refused-fits : (c : Refusal) → Fits (refused (numberOf c))
-refused-fits c = cause-fits (numberOf c) (cause-number c .1)
-
--- minus the number of a cause, as it is computed
-zero-less : (c : ℕ) → pos 0 -ℤ pos c ≡ negℤ (pos c)
-zero-less zero = refl
-zero-less (suc c) =
-    let e : suc c - 1 ≡ c = omega arith in
-    rw (le-leb 1 (suc c) (omega arith), e)
-
-pub negated : (c : Refusal) (n : ℕ) → n ≡ numberOf c → pos 0 -ℤ toZ w64 n ≡ signedOf (refused (numberOf c))
-negated c n e = let b = cause-number c in ap (λ z. pos 0 -ℤ z) (toZ-pos w64 n (omega arith) ∙ ap pos e) ∙ zero-less (numberOf c)
+pub use Rattle.signed_replies.proofs.Fitting.{Fits, read-back, refused-fits}
 
 pub small-fits : (n : ℕ) → n ≤ 200 → Fits (length-is n)
 small-fits n h = record { sfits = omega arith }

@@ -2,4 +2,3 @@
 pub mod Fitting
 pub mod Measures
 pub mod Parts
-pub mod Telling

@@ -2,40 +2,31 @@
 use mathlib.Core.Path.{_≡_, refl, sym, _∙_, ap, subst}
 use mathlib.Core.List.{List}
 use Prim.Native.Nat.{ℕ, _*_, _≤_, _<_, _^_}
+use native.Mathlib.Nat.{le-of-lt, le-refl}
 use native.Mathlib.Omega.{arith}
-use lib.IntN.{ℤ, pos}
+use lib.IntN.{ℤ}
 use lib.ListN.{length, getD}
 use mir.Syntax.{w64}
-use mir.Val.{SFits, toZ, ofZ}
+use mir.Val.{toZ, ofZ}
 use Rattle.patterns.specs.Reading.{Result, done, fault}
-use Rattle.patterns.specs.Replies.{Answer, length-is, refused}
-use Rattle.patterns.specs.Entry.{answer, componentOf}
+use Rattle.patterns.specs.Replies.{Answer, length-is, PartAnswer}
+use Rattle.patterns.specs.Entry.{answer, componentOf, partAnswered}
+use Rattle.patterns.specs.SignedReplies.{signedOf, componentStart, componentEnd}
 use Rattle.form_theory.proofs.Bounds.{below-at}
-use Rattle.patterns.specs.declared.reply.Stretch.{Stretch}
-use Rattle.patterns.specs.declared.reply.Stretch.the-variants.{Part}
-use Rattle.patterns.specs.Replies.{PartAnswer, part-is, part-refused, partAnswer}
-use Rattle.patterns.specs.Entry.{partAnswered}
 use Rattle.form_theory.proofs.ComponentStands.{stands, stands-within}
-use Rattle.patterns.specs.SignedReplies.{signedOf}
+use Rattle.signed_replies.specs.Ends.{startIn, endIn}
 use Rattle.c_interface.proofs.Fitting.{Fits, read-back, refused-fits}
 
-module _ (which : ℕ × ℕ → ℕ) (within : (start end : ℕ) → start < end → which (start, end) ≤ end) where
-  -- one end, or the refusal
-  abbrev endIn : PartAnswer → Answer
-  endIn (part-is start end) = length-is (which (start, end))
-  endIn (part-refused c) = refused c
+module _ (b : List ℕ) (i : ℕ) (bytes : (j : ℕ) → j < length b → getD b j 0 < 256) (room : length b * 1 < 2 ^ 63) (a : PartAnswer)
+    (replied : a ≡ partAnswered (componentOf b i)) where
+  -- one of the two ends, which the reply shows
+  module _ (which : ℕ × ℕ → ℕ) (within : (start end : ℕ) → start < end → which (start, end) ≤ end) (shown : PartAnswer → Answer)
+      (shows : (o : Result (ℕ × ℕ)) → shown (partAnswered o) ≡ answer o (λ ends. length-is (which ends))) where
+    abbrev Found : Answer
+    Found = answer (componentOf b i) (λ ends. length-is (which ends))
 
-  end-told : (o : Result (ℕ × ℕ)) {a : PartAnswer} → a ≡ partAnswered o → endIn a ≡ answer o (λ ends. length-is (which ends))
-  end-told (done ends) e = rw e
-  end-told (fault c) e = rw e
-
-  module _ (b : List ℕ) (i : ℕ) (bytes : (j : ℕ) → j < length b → getD b j 0 < 256) (room : length b * 1 < 2 ^ 63) (r : Stretch)
-      (replied : partAnswer r ≡ partAnswered (componentOf b i)) where
-    abbrev End : Answer
-    End = answer (componentOf b i) (λ ends. length-is (which ends))
-
-    end-fits : Fits End
-    end-fits = of (componentOf b i) refl
+    found-fits : Fits Found
+    found-fits = of (componentOf b i) refl
       where
         of : (o : Result (ℕ × ℕ)) → componentOf b i ≡ o → Fits (answer o (λ ends. length-is (which ends)))
         of (done ends) e =
@@ -43,12 +34,32 @@ module _ (which : ℕ × ℕ → ℕ) (within : (start end : ℕ) → start < en
             record { sfits = omega (arith, within (ends .0) (ends .1) (inside .0), inside .1) }
         of (fault c) e = refused-fits c
 
-    found : {s : Stretch} → r ≡ s → endIn (partAnswer s) ≡ End
-    found e = end-told (componentOf b i) (sym (ap partAnswer e) ∙ replied)
+    found : shown a ≡ Found
+    found = ap shown replied ∙ shows (componentOf b i)
 
-    -- what the number of the end asks, and what it is
-    pub end-counted : {start end : ℕ} → r ≡ Part start end → SFits w64 (pos (which (start, end)))
-    end-counted e = subst Fits (sym (found e)) end-fits
+    shown-fits : Fits (shown a)
+    shown-fits = subst Fits (sym found) found-fits
 
-    pub end-number : {z : ℤ} {s : Stretch} → r ≡ s → z ≡ signedOf (endIn (partAnswer s)) → toZ w64 (ofZ w64 z) ≡ signedOf End
-    end-number e k = read-back (k ∙ ap signedOf (found e)) end-fits
+    shown-number : {z : ℤ} → z ≡ signedOf (shown a) → toZ w64 (ofZ w64 z) ≡ signedOf Found
+    shown-number e = read-back (e ∙ ap signedOf found) found-fits
+
+  start-shown : (o : Result (ℕ × ℕ)) → startIn (partAnswered o) ≡ answer o (λ ends. length-is (ends .0))
+  start-shown (done ends) = refl
+  start-shown (fault c) = refl
+
+  end-shown : (o : Result (ℕ × ℕ)) → endIn (partAnswered o) ≡ answer o (λ ends. length-is (ends .1))
+  end-shown (done ends) = refl
+  end-shown (fault c) = refl
+
+  -- what the number of an end asks, and what it is
+  pub start-fits : Fits (startIn a)
+  start-fits = shown-fits (λ ends. ends .0) (λ start end h. le-of-lt h) startIn start-shown
+
+  pub start-is : {z : ℤ} → z ≡ signedOf (startIn a) → toZ w64 (ofZ w64 z) ≡ signedOf (componentStart b i)
+  start-is = shown-number (λ ends. ends .0) (λ start end h. le-of-lt h) startIn start-shown
+
+  pub end-fits : Fits (endIn a)
+  end-fits = shown-fits (λ ends. ends .1) (λ start end h. le-refl end) endIn end-shown
+
+  pub end-is : {z : ℤ} → z ≡ signedOf (endIn a) → toZ w64 (ofZ w64 z) ≡ signedOf (componentEnd b i)
+  end-is = shown-number (λ ends. ends .1) (λ start end h. le-refl end) endIn end-shown

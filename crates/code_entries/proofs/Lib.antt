@@ -1,3 +1,2 @@
 -- The laws that the entries cite.
-pub mod CodesPut
-pub mod MapsPut
+pub mod FirstPut

@@ -4,3 +4,4 @@ pub mod Circling
 pub mod TurnedLeast
 pub mod Preparing
 pub mod Collecting
+pub mod CodedSizes

@@ -17,7 +17,8 @@ use Rattle.patterns.specs.Table.{image, cycleFrom}
 use Rattle.patterns.proofs.Trees.{length-flat, points-append}
 use Rattle.patterns.proofs.Rotations.{Rotated, rotated-trans, rotated-perm, rotated-nonempty, valid-from}
 use Rattle.map_theory.specs.Plants.{Plant, shape, plantAt, plantsAlong}
-use Rattle.arrangement.specs.Arrangement.{Planted, LeastStart}
+use Rattle.arrangement.specs.Arrangement.{Planted}
+use Rattle.rotation.specs.LeastStart.{LeastStart}
 use Rattle.coding.specs.Writing.{CycleAsked, ComponentWritten}
 use Rattle.map_theory.proofs.PlantAt.{plantTo-shape, treeTo-valid}
 use Rattle.map_theory.proofs.Exists.{map-cut}

@@ -1,12 +1,12 @@
 // From a table to its system, the labels of the points beside the trees.
 use arrangement::insert_component;
 use arrangement::insert_tree;
-use arrangement::least_start;
 use cycles::mark_cycles;
 use links::lead_cycles;
 use links::link_branches;
 use lists::exchange;
 use patterns::points_room;
+use rotation::least_start;
 ghost use denote.Ref.{now};
 ghost use mathlib.Core.List.{List, [], _∷_};
 ghost use Prim.Native.Nat.{ℕ, _+_, _<_};

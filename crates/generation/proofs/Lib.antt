@@ -1,3 +1,3 @@
 -- The laws that the functions of this crate rest on.
-pub mod Trying
 pub mod Scanning
+pub mod Relatives

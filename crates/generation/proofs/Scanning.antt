@@ -15,7 +15,8 @@ use Rattle.trees.specs.Beginnings.{leadingPoints}
 use Rattle.component_theory.specs.ChildPlaces.{childAt, childFrom}
 use Rattle.component_theory.proofs.ChildPlaces.{childFrom-step, childFrom-end, childFrom-lefts, childFrom-past, length-candidates}
 use Rattle.component_theory.proofs.Generation.{valid-positive}
-use Rattle.generation.specs.HeldNodes.{Node, HeldCandidate, HeldScan, Gave, Passed}
+use Rattle.children.specs.Candidates.{Gave, HeldCandidate}
+use Rattle.generation.specs.HeldNodes.{Node, HeldScan, Passed}
 
 pub gave-path : {o q : Option Component} → o ≡ q → (r : Bool) (x : List ℕ) → Gave o r x → Gave q r x
 gave-path e r x g = subst (λ k. Gave k r x) e g

@@ -1,15 +1,15 @@
 -- What the functions of this crate ask of lent slices, and what their answers mean.
 use mathlib.Core.Path.{_≡_}
-use mathlib.Core.Bool.{Bool, true, false}
-use mathlib.Core.List.{List, _∷_}
-use mathlib.Core.Option.{Option, none, some}
+use mathlib.Core.Bool.{Bool, true}
+use mathlib.Core.List.{List}
+use mathlib.Core.Option.{Option}
 use Prim.Native.Nat.{ℕ, suc, _≤_}
 use lib.ListN.{length}
 use Rattle.lists.specs.Select.{otherwise}
 use Rattle.patterns.specs.Component.{Component, flat, validComponent}
 use Rattle.trees.specs.Beginnings.{leadingPoints}
 use Rattle.component_theory.specs.ChildPlaces.{childFrom}
-use Rattle.trees.specs.HeldNeighbours.{behind, HeldNeighbours}
+use Rattle.children.specs.Candidates.{Gave}
 
 -- a valid component of at most 200 points
 pub record Node (s : List ℕ) : Type 0 where
@@ -22,22 +22,12 @@ pub record Node (s : List ℕ) : Type 0 where
 abbrev pub AsLong : List ℕ → List ℕ → Type 0
 AsLong s out = length out ≡ length s
 
--- a valid component of at most 200 points whose first i trees are points and that has two trees more, and a buffer of as many bytes
-pub record HeldCandidate (s : List ℕ) (i : ℕ) (out : List ℕ) : Type 0 where
-  pub pair : HeldNeighbours s i out
-  pub valid : validComponent (behind i (pair .this ∷ pair .that ∷ pair .after)) ≡ true
-
 -- a valid component of at most 200 points with its numbers of pairs of neighbours and of leading points, and a buffer of as many bytes
 pub record HeldScan (s : List ℕ) (pairs lead : ℕ) (out : List ℕ) : Type 0 where
   pub node : Node s
   pub room : AsLong s out
   pub counted : length (node .trees) ≡ suc pairs
   pub leads : leadingPoints (node .trees) ≡ lead
-
--- a component, if there is one, was written to a buffer, and r says whether there is
-abbrev pub Gave : Option Component → Bool → List ℕ → Type 0
-Gave none r out = r ≡ false
-Gave (some d) r out = (r ≡ true) × (out ≡ flat d)
 
 -- the first child of c from place k on was written, or there is none at a place before j
 pub record Passed (c : Component) (k j : ℕ) (r : Bool) (out : List ℕ) : Type 0 where

@@ -1,52 +1,26 @@
-// The children of a component [document 004, Lemma 12].
-// A component is flat: a slice of as many bytes as it has points, the codes of its trees one after another.
-use components::has_least_rotation;
-use trees::at_most;
+// The first child and the next sibling of a component [document 004, Lemma 12]. A component is flat: a byte for each point.
+use bytes::copy;
+use children::left_child;
+use children::right_child;
+use components::Climb;
+use components::parent;
 use trees::count;
-use trees::last_branch;
 use trees::leading;
-use trees::merge_left;
-use trees::merge_right;
 ghost use denote.Ref.{now};
 ghost use mathlib.Core.Path.{_≡_};
-ghost use Prim.Native.Nat.{ℕ, suc, _+_, _≤_};
-ghost use lib.ListN.{length};
-ghost use Rattle.lists.specs.Select.{first};
+ghost use Prim.Native.Nat.{_+_, _≤_};
 ghost use Rattle.patterns.specs.Component.{Component, flat};
-ghost use Rattle.component_theory.specs.Successor.{firstChild};
-ghost use Rattle.component_theory.specs.ChildPlaces.{childAt, childFrom};
-ghost use Rattle.generation.specs.HeldNodes.{Node, AsLong, HeldCandidate, HeldScan, Gave, Passed};
+ghost use Rattle.component_theory.specs.Successor.{firstChild, opening as openingOf};
+ghost use Rattle.component_theory.specs.ChildPlaces.{childFrom};
+ghost use Rattle.children.specs.Candidates.{Gave};
+ghost use Rattle.generation.specs.HeldNodes.{Node, AsLong, HeldScan, Passed};
+ghost use Rattle.generation.specs.Siblings.{Beside};
 
-// The left merge at `i`, where it is a child.
-pub fn left_child(s: &[u8], i: usize, out: &mut [u8]) -> bool
-    requires { ⌜ HeldCandidate (now s) i (now out) ⌝ }
-    ensures { λ r. ⌜ ((c : Component) → now (s .entry) ≡ flat c → Gave (first (childAt c i)) r (now (out .exit))) ⌝ }
-{
-    let j = i + s[i] as usize;
-    let e = j + s[j] as usize;
-    if !at_most(&s[i..j], &s[j..e]) {
-        return false;
-    }
-    merge_left(s, i, out);
-    has_least_rotation(out)
-}
-
-// The right merge at `i`, where it is a child and not the left merge too.
-pub fn right_child(s: &[u8], i: usize, out: &mut [u8]) -> bool
-    requires { ⌜ HeldCandidate (now s) i (now out) ⌝ }
-    ensures { λ r. ⌜ ((c : Component) (n : ℕ) → now (s .entry) ≡ flat c → length c ≡ suc n → Gave (first (childAt c (n + i))) r (now (out .exit))) ⌝ }
-{
-    let j = i + s[i] as usize;
-    let e = j + s[j] as usize;
-    if at_most(&s[j..e], &s[i..j]) {
-        return false;
-    }
-    let l = j + last_branch(&s[j..e]);
-    if at_most(&s[l..e], &s[i..j]) {
-        merge_right(s, i, out);
-        return has_least_rotation(out);
-    }
-    false
+// Beside a component: it has no parent, it is its parent's last child, or it has a next sibling.
+pub enum Sibling {
+    Root,
+    Last,
+    Next,
 }
 
 // The first child among the left merges from place `from` on.
@@ -107,4 +81,28 @@ pub fn first_child(s: &[u8], out: &mut [u8]) -> bool
     ensures { λ r. ⌜ ((c : Component) → now (s .entry) ≡ flat c → Gave (firstChild c) r (now (out .exit))) ⌝ }
 {
     scan(s, 0, out)
+}
+
+// The parent, in `up`, and the next sibling, in `out`.
+pub fn next_sibling(s: &[u8], up: &mut [u8], out: &mut [u8]) -> Sibling
+    requires { ⌜ Node (now s) × AsLong (now s) (now out) × AsLong (now s) (now up) ⌝ }
+    ensures { λ r. ⌜ ((c : Component) → now (s .entry) ≡ flat c → Beside c r (now (up .exit)) (now (out .exit))) ⌝ }
+{
+    let Climb::Key(key) = parent(s, up) else {
+        return Sibling::Root;
+    };
+    if scan(up, key + 1, out) {
+        return Sibling::Next;
+    }
+    Sibling::Last
+}
+
+// The first child, and where there is none the component itself.
+pub fn opening(s: &[u8], out: &mut [u8])
+    requires { ⌜ Node (now s) × AsLong (now s) (now out) ⌝ }
+    ensures { λ r. ⌜ ((c : Component) → now (s .entry) ≡ flat c → now (out .exit) ≡ flat (openingOf c)) ⌝ }
+{
+    if !first_child(s, out) {
+        copy(s, out);
+    }
 }

@@ -1,5 +1,4 @@
 -- Good inputs by their bytes, the output for every input, a buffer filled line by line, and the theorem about the program.
-pub mod Inputs
 pub mod Outputs
-pub mod FilledPieces
+pub mod FirstPieces
 pub mod Program

@@ -22,9 +22,9 @@ use Rattle.lister.specs.declared.Phase.the-variants.{Bad as BadCount, Header}
 use Rattle.lister.specs.Remaining.{remaining}
 use Rattle.lister.specs.Good.{Good}
 use Rattle.lister.proofs.NextStates.{text-of}
-use Rattle.listing.specs.declared.Parsed.the-variants.{Count, Bad}
-use Rattle.listing.specs.Count.{Reads, good, bad}
-use Rattle.listing.proofs.Inputs.{line-short}
+use Rattle.count_line.specs.declared.Parsed.the-variants.{Count, Bad}
+use Rattle.count_line.specs.Count.{Reads, good, bad}
+use Rattle.count_line.proofs.Inputs.{line-short}
 
 pub output-counts : (input : List ℕ) → outputOf input ≡ textFor (counts input)
 unfolding outputOf

@@ -18,12 +18,12 @@ use Rattle.lister.specs.Remaining.{remaining}
 use Rattle.lister.specs.Good.{Good}
 use Rattle.lister.specs.Put.{Put}
 use Rattle.listing.specs.Pieces.{Pieces, ended, handed}
-use Rattle.listing.proofs.FilledPieces.{empty-piece}
+use Rattle.pieces.proofs.FilledPieces.{empty-piece}
 use Rattle.listing.proofs.Outputs.{output-counts, counts-small, first-four}
 use Rattle.listing.proofs.start.Reads as start
 use Rattle.listing.proofs.start.Kinds as start-kinds
-use Rattle.listing.proofs.piece.Reads as piece
-use Rattle.listing.proofs.piece.Kinds as piece-kinds
+use Rattle.pieces.proofs.piece.Reads as piece
+use Rattle.pieces.proofs.piece.Kinds as piece-kinds
 
 -- what `start` promises is what the theorem asks of the first state
 pub start-tied : (κs : Lfts 1) (a : Dens κs start-kinds.ps) (r : _) (s : _) → start.Post κs a r s → Good r × (remaining r ≡ outputOf (now (a .0)))

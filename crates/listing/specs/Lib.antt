@@ -1,3 +1,2 @@
--- Which inputs are good, and the pieces of the output.
-pub mod Count
+-- The pieces of the output.
 pub mod Pieces

@@ -8,12 +8,8 @@ use Rattle.lister.specs.declared.Step.{Step}
 use Rattle.lister.specs.Remaining.{remaining}
 use Rattle.lister.specs.Put.{Put}
 
--- a beginning of the text t fills the first places of a buffer, and all of t where there is room for one more line
-pub record Filled (t before : List ℕ) (r : Step) (after : List ℕ) : Type 0 where
-  pub put : Put t 0 before r after
-  pub whole : length t + 4096 ≤ length before → remaining (r .next) ≡ []
-
--- the same of the number of bytes alone; a buffer with less room than a line may need is left as it was
+-- a beginning of the text t fills the first r places of a buffer, and all of t where there is room for one more line; a buffer with less room than a line
+-- may need is left as it was
 pub record FirstPiece (t before : List ℕ) (r : ℕ) (after : List ℕ) : Type 0 where
   pub rest : List ℕ
   pub text : take r after ++ rest ≡ t

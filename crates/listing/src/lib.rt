@@ -1,11 +1,13 @@
 // The listing program [document 01, "Sheet of examples"]: it reads a count of points and writes every code of so many points, in the order of the list.
+use count_line::Parsed;
+use count_line::parse;
 use libc::STDIN_FILENO;
 use libc::STDOUT_FILENO;
 use lister::Phase;
 use lister::State;
-use lister::Step;
-use lister::put_next;
 use lister::state_at;
+use pieces::ROOM;
+use pieces::piece;
 ghost use denote.Ref.{now};
 ghost use mathlib.Core.Path.{_≡_};
 ghost use mathlib.Core.List.{[]};
@@ -14,57 +16,7 @@ ghost use lib.ListN.{length};
 ghost use Rattle.patterns.specs.ListingText.{outputOf};
 ghost use Rattle.lister.specs.Remaining.{remaining};
 ghost use Rattle.lister.specs.Good.{Good};
-ghost use Rattle.listing.specs.Count.{Reads};
-ghost use Rattle.listing.specs.Pieces.{Filled, FirstPiece};
-
-// A line is put only where this much room is left: a code of 1,000 bytes takes at most 4,000 and its position.
-const ROOM: usize = 4096;
-
-// What the input says: a count of points, or nothing that the program takes.
-enum Parsed {
-    Count(usize),
-    Bad,
-}
-
-// Reads a decimal count from 0 to 14 without leading zeros, one newline, and nothing after it.
-fn parse(input: &[u8]) -> Parsed
-    ensures { λ r. ⌜ Reads (now (input .entry)) r ⌝ }
-{
-    if input.len() == 2 {
-        if input[1] != 10 {
-            return Parsed::Bad;
-        }
-        if input[0] < 48 {
-            return Parsed::Bad;
-        }
-        if 57 < input[0] {
-            return Parsed::Bad;
-        }
-        return Parsed::Count(wide(input[0]) - 48);
-    }
-    if input.len() != 3 {
-        return Parsed::Bad;
-    }
-    if input[0] != 49 {
-        return Parsed::Bad;
-    }
-    if input[1] < 48 {
-        return Parsed::Bad;
-    }
-    if 52 < input[1] {
-        return Parsed::Bad;
-    }
-    if input[2] != 10 {
-        return Parsed::Bad;
-    }
-    Parsed::Count(wide(input[1]) - 38)
-}
-
-fn wide(x: u8) -> usize
-    ensures { λ r. ⌜ r ≡ x ⌝ }
-{
-    x as usize
-}
+ghost use Rattle.listing.specs.Pieces.{FirstPiece};
 
 // The state before anything is written.
 fn start(input: &[u8]) -> State
@@ -74,24 +26,6 @@ fn start(input: &[u8]) -> State
         Parsed::Count(n) => state_at(Phase::Header(n)),
         Parsed::Bad => state_at(Phase::Bad),
     }
-}
-
-// Fills `out` with as many of the lines to come as have room.
-fn piece(state: State, out: &mut [u8]) -> Step
-    requires { ⌜ Good state × (4096 ≤ length (now out)) ⌝ }
-    ensures { λ r. ⌜ Filled (remaining state) (now (out .entry)) r (now (out .exit)) ⌝ }
-{
-    let mut at = 0;
-    let mut next = state;
-    while ROOM <= out.len() - at {
-        let step = put_next(next, out, at);
-        if step.len == at {
-            return step;
-        }
-        at = step.len;
-        next = step.next;
-    }
-    Step { len: at, next }
 }
 
 // Puts the first piece of what the program writes for this input into `out` and answers its length; nothing where `out` has less room than a line may need.

@@ -7,10 +7,10 @@ use lib.ListN.{length, take, drop, drop-of-length-le}
 use lib.Seq.{take-at, take-all}
 use Rattle.patterns.specs.declared.Refusal.{Refusal}
 use Rattle.patterns.specs.Reading.{done, andThen, cut}
-use Rattle.written.specs.declared.Cut.{Cut}
-use Rattle.written.specs.declared.Cut.the-variants.{Number, Refused}
-use Rattle.written.specs.Cutting.{stored, CutInto}
-use Rattle.written.proofs.Cutting.{numbers-cut, refusal-cut}
+use Rattle.cutting.specs.declared.Cut.{Cut}
+use Rattle.cutting.specs.declared.Cut.the-variants.{Number, Refused}
+use Rattle.cutting.specs.Cutting.{stored, CutInto}
+use Rattle.cutting.proofs.Cutting.{numbers-cut, refusal-cut}
 use Rattle.reading.specs.declared.Accepted.{Accepted}
 use Rattle.reading.specs.declared.Accepted.the-variants.{Refused as NotAccepted}
 use Rattle.reading.specs.Shape.{shape, codeShape, keptNumbers, AcceptedInto}

@@ -1,5 +1,4 @@
 -- The laws of reading a code, in plain terms; the proofs of the functions cite them.
-pub mod ComponentsRead
 pub mod Prefix
 pub mod Whole
 pub mod Kept

@@ -16,7 +16,7 @@ use Rattle.tree_reading.specs.Walking.{readComponent}
 use Rattle.reading.specs.Shape.{ended, shapeBody, shape, codeShape}
 use Rattle.form_theory.proofs.Results.{Good, good-then, good-mapped}
 use Rattle.form_theory.proofs.ReadFrom.{ComponentsOf, components-good}
-use Rattle.reading.proofs.ComponentsRead.{components-next, ComponentOf, component-good}
+use Rattle.component_reading.proofs.ComponentsRead.{components-next, ComponentOf, component-good}
 
 some-tree : (c : Component) → 0 < length c → nonempty c ≡ true
 some-tree [] h = absurd (omega arith)

@@ -15,7 +15,8 @@ use Rattle.patterns.specs.Reading.{Result, done, fault, andThen, readComponents
 use Rattle.tree_reading.specs.declared.Read.{Read}
 use Rattle.tree_reading.specs.declared.Read.the-variants.{Past, Refused}
 use Rattle.reading.specs.declared.Accepted.the-variants.{System as Held, Refused as NotAccepted}
-use Rattle.reading.specs.Shape.{ended, shapeBody, shape, walkedSystem, ReadInto, acceptance, AcceptedInto}
+use Rattle.reading.specs.Shape.{ended, shapeBody, shape, acceptance, AcceptedInto}
+use Rattle.component_reading.specs.ReadComponents.{walkedSystem, ReadInto}
 use Rattle.form_theory.proofs.ReadFrom.{components-read}
 use Rattle.reading.proofs.Prefix.{components-take}
 

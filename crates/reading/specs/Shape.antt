@@ -1,15 +1,13 @@
--- The shape of a whole code: all that is checked of it but whether it is canonical. What the readers answer, and what they leave in the lent memory.
+-- The shape of a whole code: all that is checked of it but whether it is canonical. What the reader answers, and what it leaves in the lent memory.
 use mathlib.Core.Path.{_≡_}
 use mathlib.Core.Bool.{cond, _&&_, _||_}
 use mathlib.Core.List.{List, [], _∷_}
-use Prim.Native.Nat.{ℕ, _+_, _≤_}
+use Prim.Native.Nat.{ℕ, _+_}
 use lib.Dec.{ltb, eqb}
 use lib.ListN.{length, take, drop}
 use Rattle.patterns.specs.declared.Refusal.the-variants.{Count, Truncated, Sizes, Trailing}
 use Rattle.patterns.specs.System.{System, weight}
 use Rattle.patterns.specs.Reading.{Result, done, fault, andThen, cut, readComponents}
-use Rattle.tree_reading.specs.declared.Read.{Read}
-use Rattle.tree_reading.specs.declared.Read.the-variants.{Past, Refused}
 use Rattle.reading.specs.declared.Accepted.{Accepted}
 use Rattle.reading.specs.declared.Accepted.the-variants.{System as Held, Refused as NotAccepted}
 use Rattle.memory.specs.Memory.{Holds}
@@ -43,22 +41,6 @@ codeShape b = andThen (cut b) shape
 -- and one more shows that some are left.
 abbrev pub keptNumbers : ℕ
 keptNumbers = 403
-
--- the lent memory has room for m components of n points in all, and each number of points is a byte
-pub record MemoryRoom (m n : ℕ) (sizes trees : List ℕ) : Type 0 where
-  pub components : m ≤ length sizes
-  pub points : n ≤ length trees
-  pub small : n ≤ 200
-
--- components read from place `at` on take a number each, and as many more as they have points
-abbrev pub walkedSystem : ℕ → Result System → Read
-walkedSystem at (done S) = Past (at + (length S + weight S))
-walkedSystem at (fault c) = Refused c
-
--- the components were read, and the memory then holds them in its first places; after a refusal what it holds is left free
-pub record ReadInto (at : ℕ) (o : Result System) (r : Read) (sizes trees : List ℕ) : Type 0 where
-  pub reply : r ≡ walkedSystem at o
-  pub held : (S : System) → o ≡ done S → Holds S (take (length S) sizes) (take (weight S) trees)
 
 -- the number of components and the number of points
 abbrev pub acceptance : Result System → Accepted

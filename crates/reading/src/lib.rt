@@ -1,18 +1,16 @@
-// Reading a written code into memory [document 01, "Refusing"]: the shape of trees, components and the whole, left to right, the first fault deciding.
+// Reading a written code into memory [document 01, "Refusing"]: the shape of the whole, left to right, the first fault deciding.
 // Whether the system is canonical is not asked here.
+use component_reading::read_components;
+use cutting::Cut;
+use cutting::cut_into;
 use patterns::Refusal;
 use tree_reading::Read;
-use tree_reading::narrow;
-use tree_reading::read_component;
-use written::Cut;
-use written::cut_into;
 ghost use denote.Ref.{now};
 ghost use mathlib.Core.Path.{_≡_};
 ghost use mathlib.Core.List.{List};
 ghost use Prim.Native.Nat.{ℕ};
-ghost use lib.ListN.{length, take, drop};
-ghost use Rattle.patterns.specs.Reading.{readComponents};
-ghost use Rattle.reading.specs.Shape.{shape, codeShape, keptNumbers, MemoryRoom, ReadInto, AcceptedInto};
+ghost use lib.ListN.{length, take};
+ghost use Rattle.reading.specs.Shape.{shape, codeShape, keptNumbers, AcceptedInto};
 
 // How many numbers of a code are kept: all that a code of 200 points has (n, m, one for each component and each point), and one more, which shows
 // that some are left.
@@ -22,39 +20,6 @@ const KEPT: usize = 403;
 pub enum Accepted {
     System(usize, usize),
     Refused(Refusal),
-}
-
-// `m` components of `left` points in all, from place `at` on. The points of each go into `sizes`, and the components into `trees`.
-pub fn read_components(
-    s: &[u16],
-    at: usize,
-    m: usize,
-    left: usize,
-    sizes: &mut [u8],
-    trees: &mut [u8],
-) -> Read
-    requires { ⌜ MemoryRoom m left (now sizes) (now trees) ⌝ }
-    ensures { λ r. ⌜ ReadInto at (readComponents m left (drop at (now (s .entry)))) r (now (sizes .exit)) (now (trees .exit)) ⌝ }
-{
-    let mut next = at;
-    let mut rest = left;
-    let mut i = 0;
-    while i < m {
-        let component = read_component(s, next, rest);
-        let Read::Past(end) = component else {
-            return component;
-        };
-        let points = end - next - 1;
-        narrow(&s[next + 1..end], trees, left - rest);
-        sizes[i] = points as u8;
-        rest -= points;
-        next = end;
-        i += 1;
-    }
-    if 0 < rest {
-        return Read::Refused(Refusal::Sizes);
-    }
-    Read::Past(next)
 }
 
 // The whole: n and m, the components, and nothing after them. That there is no component and some points needs no test of its own:

@@ -17,13 +17,14 @@ use Rattle.patterns.specs.System.{System, weight, canonical}
 use Rattle.stepping.specs.declared.Stepped.the-variants.{Next, Last}
 use Rattle.system_theory.specs.Step.{nextSizes, cycle, bump, step}
 use Rattle.memory.specs.Memory.{Holds}
-use Rattle.systems.specs.Held.{sum, SizesIn, NextIn}
-use Rattle.stepping.specs.HeldSteps.{HeldCanonical, Bumped, HeldStep, SteppedTo}
+use Rattle.size_lists.specs.SizesHeld.{sum, SizesIn, NextIn}
+use Rattle.bumping.specs.HeldBumps.{HeldCanonical, Bumped}
+use Rattle.stepping.specs.HeldSteps.{HeldStep, SteppedTo}
 use Rattle.system_theory.proofs.Sizes.{Upward, upward-nil, upward-cons}
 use Rattle.system_theory.proofs.Canonical.{canonical-upward}
 use Rattle.system_theory.proofs.Step.{step-keeps}
 use Rattle.system_theory.proofs.StepScan.{step-bump, step-sizes, step-none}
-use Rattle.systems.proofs.Filling.{flat-cycles, cycles-points}
+use Rattle.size_lists.proofs.Filling.{flat-cycles, cycles-points}
 use Rattle.memory.proofs.Parts.{held-count, held-points, held-unique}
 
 positive : {a : ℕ} {l : List ℕ} → 1 ≤ a → Upward a l → each (ltb 0) l ≡ true

@@ -2,42 +2,29 @@
 use mathlib.Core.Path.{_≡_, refl, ap, sym, _∙_, subst}
 use mathlib.Core.Bool.{Bool, true, false, cond, true≢false}
 use mathlib.Core.List.{List, [], _∷_}
-use mathlib.Core.Option.{Option, none, some, Option·map, Option·getD}
-use Prim.Native.Nat.{ℕ, suc, _+_, _-_, _%_, _≤_, _<_}
+use mathlib.Core.Option.{Option, none, some, Option·map}
+use Prim.Native.Nat.{ℕ, _-_, _%_, _≤_}
 use native.Mathlib.Omega.{arith}
-use native.Mathlib.Numerals.{add-one}
 use lib.Dec.{eqb}
 use lib.ListN.{length}
 use borrow.Author.Tests.{eq-eqb, ne-eqb}
 use Rattle.lists.proofs.Members.{lawful-decides, in-head, in-list}
-use Rattle.lists.proofs.Places.{place-index}
 use Rattle.lists.proofs.Follow.{otherwise, first-some, next-within, within-some-in}
 use Rattle.patterns.specs.Tree.{point, merge}
 use Rattle.patterns.specs.Component.{Component, points, flat, validComponent}
 use Rattle.patterns.specs.Generation.{hasParent, parent, children}
-use Rattle.patterns.proofs.Trees.{compareComponent-lawful, length-flat, flat-injective}
-use Rattle.components.specs.Climbs.{Climbed}
+use Rattle.patterns.proofs.Trees.{compareComponent-lawful, length-flat}
 use Rattle.component_theory.specs.LocalStep.{evenDepth}
 use Rattle.component_theory.specs.Successor.{firstChild, nextSibling, opening, afterEven, afterOdd, successor}
-use Rattle.components.specs.declared.Climb.{Climb}
-use Rattle.components.specs.declared.Climb.the-variants.{Root as NoParent, Key}
-use Rattle.component_theory.proofs.Lemma8.{parent-valid, parent-points}
-use Rattle.component_theory.proofs.Children.{in-candidates, child-candidate, children-parent}
-use Rattle.component_theory.specs.Path.{key}
-use Rattle.component_theory.specs.ChildPlaces.{childFrom}
-use Rattle.component_theory.proofs.ChildPlaces.{nextSibling-place, length-candidates}
-use Rattle.component_theory.proofs.Generation.{length-points, valid-positive}
-use Rattle.generation.specs.HeldNodes.{Node, Gave}
-use Rattle.succession.specs.Siblings.{Beside}
-use Rattle.succession.specs.declared.Sibling.{Sibling}
-use Rattle.succession.specs.declared.Sibling.the-variants.{Root, Last, Next}
+use Rattle.component_theory.proofs.Lemma8.{parent-valid}
+use Rattle.component_theory.proofs.Children.{child-candidate, children-parent}
+use Rattle.component_theory.proofs.Generation.{length-points}
+use Rattle.children.specs.Candidates.{Gave}
+use Rattle.generation.specs.HeldNodes.{Node}
+use Rattle.generation.specs.Siblings.{Beside}
+use Rattle.generation.specs.declared.Sibling.{Sibling}
+use Rattle.generation.specs.declared.Sibling.the-variants.{Root, Last, Next}
 use Rattle.generation.proofs.Scanning.{gave-path, gave-first, gave-nothing}
-
-node-trees : {s : List ℕ} (p : Node s) (c : Component) → s ≡ flat c → p .trees ≡ c
-node-trees p c e = flat-injective (p .trees) c (sym (p .is) ∙ e)
-
-pub node-valid : {s : List ℕ} (p : Node s) (c : Component) → s ≡ flat c → validComponent c ≡ true
-node-valid p c e = subst (λ d. validComponent d ≡ true) (node-trees p c e) (p .valid)
 
 -- the children of a component are valid
 pub firstChild-valid : (c d : Component) → firstChild c ≡ some d → validComponent d ≡ true
@@ -56,77 +43,6 @@ nextSibling-valid c d v h e =
 pub gave-node : (o : Option Component) (x : List ℕ) → Gave o true x → ((d : Component) → o ≡ some d → validComponent d ≡ true) → length x ≤ 200 → Node x
 gave-node none x g f l = absurd (true≢false g)
 gave-node (some d) x g f l = record { trees = d; is = g .1; valid = f d refl; small = l }
-
--- The step up: s holds a valid component, x its parent, and k is its key.
-pub record Raised (s x : List ℕ) (k : ℕ) : Type 0 where
-  pub node : Node s
-  pub same : length x ≡ length s
-  pub up : (c : Component) → s ≡ flat c → (hasParent c ≡ true) × (x ≡ flat (parent c)) × (k ≡ key c)
-
-pub raised : {s : List ℕ} → Node s → (r : Climb) (k : ℕ) → r ≡ Key k → (x : List ℕ) → length x ≡ length s
-    → ((c : Component) → s ≡ flat c → Climbed c r x) → Raised s x k
-raised p r k climbs x same climbed = record { node = p; same = same; up = λ c e. subst (λ q. Climbed c q x) climbs (climbed c e) }
-
--- the scan of the parent's children after this one
-module _ {s x : List ℕ} {k : ℕ} (v : Raised s x k) where
-  abbrev p : Node s
-  p = v .node
-
-  pub up-node : Node x
-  up-node =
-      let u = v .up (p .trees) (p .is) in
-      record { trees = parent (p .trees); is = u .1; valid = parent-valid (p .trees) (p .valid) (u .0); small = omega (arith, p .small, v .same) }
-
-  pub up-key : k < 400
-  up-key =
-      let c = p .trees in
-      let u = v .up c (p .is) in
-      let n = length (parent c) - 1 in
-      let l : length (parent c) ≡ suc n = omega (arith, valid-positive (parent c) (parent-valid c (p .valid) (u .0))) in
-      omega (
-        arith,
-        u .2,
-        (place-index (lawful-decides compareComponent-lawful) c (in-candidates c (u .0))) .0,
-        length-candidates (parent c) n l,
-        length-points (parent c),
-        parent-points c,
-        length-flat c,
-        ap length (p .is),
-        p .small,
-      )
-
-  after-key : (c : Component) → s ≡ flat c → childFrom (parent c) (k + 1) ≡ nextSibling c
-  after-key c e =
-      let u = v .up c e in
-      ap (childFrom (parent c)) (add-one k ∙ ap suc (u .2)) ∙ sym (nextSibling-place c (node-valid p c e) (u .0))
-
-  module _ (b : Bool) (y : List ℕ) (scanned : (c : Component) → x ≡ flat c → Gave (childFrom c (k + 1)) b y) (c : Component) (e : s ≡ flat c) where
-    sibling : (a : Bool) → b ≡ a → Gave (nextSibling c) a y
-    sibling a f = gave-path (after-key c e) a y (subst (λ q. Gave (childFrom (parent c) (k + 1)) q y) f (scanned (parent c) (v .up c e .1)))
-
-    pub beside-next : b ≡ true → (hasParent c ≡ true) × (x ≡ flat (parent c)) × Gave (nextSibling c) true y
-    beside-next f = let u = v .up c e in (u .0, u .1, sibling true f)
-
-    pub beside-last : b ≡ false → (hasParent c ≡ true) × (x ≡ flat (parent c)) × (nextSibling c ≡ none)
-    beside-last f = let u = v .up c e in (u .0, u .1, gave-nothing (nextSibling c) y (sibling false f))
-
-pub climbed-root : (c : Component) (r : Climb) (x : List ℕ) → Climbed c r x → r ≡ NoParent → hasParent c ≡ false
-climbed-root c r x g e = subst (λ k. Climbed c k x) e g
-
-getD-gave : (o : Option Component) (d : Component) (x : List ℕ) → Gave o true x → x ≡ flat (Option·getD o d)
-getD-gave none d x g = absurd (true≢false g)
-getD-gave (some e) d x g = g .1
-
-module _ (c : Component) (r : Bool) (x : List ℕ) (g : Gave (firstChild c) r x) where
-  -- the first child opens
-  pub opening-child : r ≡ true → x ≡ flat (opening c)
-  unfolding opening
-  opening-child e = getD-gave (firstChild c) c x (subst (λ b. Gave (firstChild c) b x) e g)
-
-  -- without a child, the component itself
-  pub opening-self : r ≡ false → opening c ≡ c
-  unfolding opening
-  opening-self e = ap (λ o. Option·getD o c) (gave-nothing (firstChild c) x (subst (λ b. Gave (firstChild c) b x) e g))
 
 -- without a parent a component is its own
 root-parent : (c : Component) → hasParent c ≡ false → parent c ≡ c

@@ -1,4 +1,2 @@
 -- The laws of this layer, in plain terms; the proofs of the functions cite them.
 pub mod Checking
-pub mod Filling
-pub mod Growing

@@ -1,3 +1,2 @@
--- The laws of cutting and of writing, in plain terms; the proofs of the functions cite them.
-pub mod Cutting
+-- The laws of writing, in plain terms; the proofs of the functions cite them.
 pub mod Placing

@@ -1,3 +1,2 @@
--- What the functions on bytes and numbers mean.
-pub mod Cutting
+-- What the writing functions mean.
 pub mod Putting

@@ -9,11 +9,11 @@ use Rattle.c_interface.proofs.lethmuok_accept.Tie as tie
 accept-requires : tie.Need-accept-requires
 accept-requires c κs = search needs
 
-number-of-requires : tie.Need-number-of-requires
-number-of-requires c κs = subst Fits (sym (c .accept .ensures)) (accept-fits (now (c .before .before .args .code)))
+reply-number-requires : tie.Need-reply-number-requires
+reply-number-requires c κs = subst Fits (sym (c .accept .ensures)) (accept-fits (now (c .before .before .args .code)))
 
 returns : tie.Need-returns
-returns c = read-back (c .number-of .ensures ∙ ap signedOf (c .before .accept .ensures)) (accept-fits (now (c .before .before .before .args .code)))
+returns c = read-back (c .reply-number .ensures ∙ ap signedOf (c .before .accept .ensures)) (accept-fits (now (c .before .before .before .args .code)))
 
 pub lethmuok-accept-spec : {M : Type 1} → statement M
-lethmuok-accept-spec = tie.close (tie.spec accept-requires number-of-requires returns)
+lethmuok-accept-spec = tie.close (tie.spec accept-requires reply-number-requires returns)

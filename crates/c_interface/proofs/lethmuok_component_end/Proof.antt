@@ -1,52 +1,21 @@
 use denote.Ref.{now}
-use native.Mathlib.Nat.{le-refl}
 use native.Mathlib.Omega.{arith}
-use Rattle.c_interface.proofs.Parts.{end-counted, end-number}
+use Rattle.c_interface.proofs.Parts.{end-fits, end-is}
 use borrow.Author.Needs.{needs}
 use Rattle.c_interface.proofs.lethmuok_component_end.Statement.{statement}
 use Rattle.c_interface.proofs.lethmuok_component_end.Tie as tie
 
-stretch-of-requires : tie.Need-stretch-of-requires
-stretch-of-requires c κs = search needs
-
-enum-known-end : tie.Need-enum-known-end
-enum-known-end c = search needs
-
-counted-requires : tie.Need-counted-requires
-counted-requires c κs =
-    let a = c .before .before .before .before .before .args in
-    end-counted (λ ends. ends .1) (λ start end h. le-refl end)
-    (now (a .code)) (a .position) (λ j h. omega (arith, c .before .before .before .before .shared-slice-known .given j)) (c .before .before .before .before .before .good .0 .1)
-    (c .before .before .before .stretch-of .result) (c .before .before .before .stretch-of .ensures) (c .before .end .given .1)
-
-enum-known-cause : tie.Need-enum-known-cause
-enum-known-cause c = search needs
-
-refusal-requires : tie.Need-refusal-requires
-refusal-requires c κs = search needs
+end-number-requires : tie.Need-end-number-requires
+end-number-requires c κs =
+    let a = c .before .before .args in
+    end-fits (now (a .code)) (a .position) (λ j h. omega (arith, c .before .shared-slice-known .given j)) (c .before .before .good .0 .1) _ (c .stretch-of .ensures)
 
 returns : tie.Need-returns
 returns c =
-    let a = c .before .before .before .before .before .before .args in
-    end-number (λ ends. ends .1) (λ start end h. le-refl end)
-    (now (a .code)) (a .position) (λ j h. omega (arith, c .before .before .before .before .before .shared-slice-known .given j)) (c .before .before .before .before .before .before .good .0 .1)
-    (c .before .before .before .before .stretch-of .result) (c .before .before .before .before .stretch-of .ensures) (c .before .before .end .given .1) (c .counted .ensures)
-
-returns-2 : tie.Need-returns-2
-returns-2 c =
-    let a = c .before .before .before .before .before .before .args in
-    end-number (λ ends. ends .1) (λ start end h. le-refl end)
-    (now (a .code)) (a .position) (λ j h. omega (arith, c .before .before .before .before .before .shared-slice-known .given j)) (c .before .before .before .before .before .before .good .0 .1)
-    (c .before .before .before .before .stretch-of .result) (c .before .before .before .before .stretch-of .ensures) (c .before .before .cause .given .1) (c .refusal .ensures)
+    let k = c .before in
+    let a = k .before .before .args in
+    end-is (now (a .code)) (a .position) (λ j h. omega (arith, k .before .shared-slice-known .given j)) (k .before .before .good .0 .1) _ (k .stretch-of .ensures)
+    (c .end-number .ensures)
 
 pub lethmuok-component-end-spec : {M : Type 1} → statement M
-lethmuok-component-end-spec =
-    tie.close
-    (tie.spec
-    stretch-of-requires
-    enum-known-end
-    counted-requires
-    enum-known-cause
-    refusal-requires
-    returns
-    returns-2)
+lethmuok-component-end-spec = tie.close (tie.spec (λ c κs. search needs) end-number-requires returns)

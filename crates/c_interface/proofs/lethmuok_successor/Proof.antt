@@ -1,65 +1,20 @@
-use mathlib.Core.Path.{sym, ap, _∙_, subst}
-use lib.IntN.{ℤ}
-use Rattle.patterns.specs.declared.reply.Successor.{Successor}
-use Rattle.patterns.specs.Replies.{successorAnswer}
-use Rattle.patterns.specs.SignedReplies.{signedOf}
-use Rattle.c_interface.proofs.Fitting.{Fits, replied-fits, reported}
+use Rattle.c_interface.proofs.Fitting.{replied-fits, reported}
 use borrow.Author.Needs.{needs}
 use Rattle.c_interface.proofs.lethmuok_successor.Statement.{statement}
 use Rattle.c_interface.proofs.lethmuok_successor.Tie as tie
 
-abbrev signed : Successor → ℤ
-signed r = signedOf (successorAnswer r)
-
 successor-requires : tie.Need-successor-requires
 successor-requires c κs = search needs
 
-enum-known-n : tie.Need-enum-known-n
-enum-known-n c = search needs
-
-counted-requires : tie.Need-counted-requires
-counted-requires c κs = subst (λ r. Fits (successorAnswer r)) (c .before .n .given .1) (replied-fits (c .before .before .before .before .before .before .before .before .before .good .1 .0 .1) (c .before .before .before .before .before .successor .ensures))
-
-enum-told : tie.Need-enum-told
-enum-told c = search needs
-
-enum-known-cause : tie.Need-enum-known-cause
-enum-known-cause c = search needs
-
-refusal-requires : tie.Need-refusal-requires
-refusal-requires c κs = search needs
+successor-number-requires : tie.Need-successor-number-requires
+successor-number-requires c κs = replied-fits (c .before .before .before .before .before .before .good .1 .0 .1) (c .before .before .successor .ensures)
 
 same-length : tie.Need-same-length
 same-length c = search needs
 
 returns : tie.Need-returns
-returns c = reported (c .before .before .before .before .before .before .before .before .before .before .good .1 .0 .1) (c .before .before .before .before .before .before .successor .ensures) (c .counted .ensures ∙ sym (ap signed (c .before .before .n .given .1)))
-
-same-length-2 : tie.Need-same-length-2
-same-length-2 c = search needs
-
-returns-2 : tie.Need-returns-2
-returns-2 c = reported (c .before .before .before .before .before .before .before .before .good .1 .0 .1) (c .before .before .before .before .successor .ensures) (ap signed (sym (c .enum-told .given .1)))
-
-same-length-3 : tie.Need-same-length-3
-same-length-3 c = search needs
-
-returns-3 : tie.Need-returns-3
-returns-3 c = reported (c .before .before .before .before .before .before .before .before .before .before .good .1 .0 .1) (c .before .before .before .before .before .before .successor .ensures) (c .refusal .ensures ∙ sym (ap signed (c .before .before .cause .given .1)))
+returns c = reported (c .before .before .before .before .before .before .before .good .1 .0 .1) (c .before .before .before .successor .ensures) (c .successor-number .ensures)
 
 pub lethmuok-successor-spec : {M : Type 1} → statement M
 lethmuok-successor-spec =
-    tie.close
-    (tie.spec
-    successor-requires
-    enum-known-n
-    counted-requires
-    enum-told
-    enum-known-cause
-    refusal-requires
-    same-length
-    returns
-    same-length-2
-    returns-2
-    same-length-3
-    returns-3)
+    tie.close (tie.spec successor-requires successor-number-requires same-length returns)

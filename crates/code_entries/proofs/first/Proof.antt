@@ -2,7 +2,7 @@ use denote.Ref.{now}
 use native.Mathlib.Omega.{arith}
 use lib.ListN.{length-take}
 use lib.Seq.{length-take-le}
-use Rattle.code_entries.proofs.CodesPut.{first-refused}
+use Rattle.code_entries.proofs.FirstPut.{first-refused}
 use borrow.Author.Needs.{needs}
 use Rattle.code_entries.proofs.first.Statement.{statement}
 use Rattle.code_entries.proofs.first.Tie as tie

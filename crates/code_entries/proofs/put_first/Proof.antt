@@ -1,6 +1,6 @@
 use denote.Ref.{now}
 use lib.ListN.{length}
-use Rattle.code_entries.proofs.CodesPut.{first-held, first-put}
+use Rattle.code_entries.proofs.FirstPut.{first-held, first-put}
 use borrow.Author.Needs.{needs}
 use Rattle.code_entries.proofs.put_first.Statement.{statement}
 use Rattle.code_entries.proofs.put_first.Tie as tie

@@ -4,7 +4,7 @@ use native.Mathlib.Omega.{arith}
 use borrow.Author.Needs.{needs}
 use Rattle.patterns.specs.Component.{Component}
 use Rattle.map_theory.specs.Plants.{shape, plantsAlong}
-use Rattle.arrangement.specs.Arrangement.{LeastStart}
+use Rattle.rotation.specs.LeastStart.{LeastStart}
 use Rattle.coding.specs.Writing.{CycleAsked}
 use Rattle.coding.proofs.TurnedLeast.{written-bound, written-part, turn-bound, turn-trees, turn-labels, component-written}
 use Rattle.coding.proofs.component_at.Statement.{statement}

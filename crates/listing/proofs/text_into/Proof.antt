@@ -1,7 +1,7 @@
 use denote.Ref.{now}
 use native.Mathlib.Omega.{arith}
 use Rattle.patterns.specs.ListingText.{outputOf}
-use Rattle.listing.proofs.FilledPieces.{first-piece, no-piece}
+use Rattle.listing.proofs.FirstPieces.{first-piece, no-piece}
 use borrow.Author.Needs.{needs}
 use Rattle.listing.proofs.text_into.Statement.{statement}
 use Rattle.listing.proofs.text_into.Tie as tie

@@ -6,7 +6,7 @@ use lib.Seq.{length-take-le}
 use borrow.Author.Needs.{needs}
 use Rattle.lister.specs.Remaining.{remaining}
 use Rattle.lister.specs.Good.{Good}
-use Rattle.listing.proofs.FilledPieces.{none-left, less-left}
+use Rattle.pieces.proofs.FilledPieces.{none-left, less-left}
 use Rattle.listing.proofs.write_pieces.Statement.{statement}
 use Rattle.listing.proofs.write_pieces.Tie as tie
 

@@ -1,0 +1,3 @@
+-- The laws of this layer, in plain terms; the proofs of the functions cite them.
+pub mod Advancing
+pub mod Scanning

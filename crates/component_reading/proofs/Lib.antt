@@ -1,0 +1,2 @@
+-- The laws of reading components, in plain terms.
+pub mod ComponentsRead

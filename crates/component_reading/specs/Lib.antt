@@ -1,0 +1,2 @@
+-- The definitions that the contract of the reader of components cites.
+pub mod ReadComponents

@@ -1,0 +1,2 @@
+-- The laws of the line that is read.
+pub mod Inputs

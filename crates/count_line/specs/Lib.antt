@@ -1,0 +1,2 @@
+-- Which inputs are good.
+pub mod Count

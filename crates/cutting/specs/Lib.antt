@@ -1,0 +1,2 @@
+-- What the cutting functions mean.
+pub mod Cutting

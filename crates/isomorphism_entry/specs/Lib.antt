@@ -1,0 +1,2 @@
+-- What the parts of the entry ask of two tables.
+pub mod SameLength

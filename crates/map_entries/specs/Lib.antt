@@ -1,2 +1,0 @@
--- What the parts of the entries ask and answer.
-pub mod Sends

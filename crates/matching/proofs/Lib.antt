@@ -1,0 +1,2 @@
+-- The laws of sending labels.
+pub mod Sending

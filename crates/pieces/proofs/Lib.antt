@@ -1,0 +1,2 @@
+-- The laws of filling a buffer line by line.
+pub mod FilledPieces

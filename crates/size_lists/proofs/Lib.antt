@@ -1,0 +1,3 @@
+-- The laws of size lists in memory, in plain terms; the proofs of the functions cite them.
+pub mod Growing
+pub mod Filling

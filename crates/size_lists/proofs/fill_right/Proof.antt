@@ -1,0 +1,77 @@
+use mathlib.Core.Path.{refl}
+use denote.Ref.{now}
+use Prim.Native.Nat.{_-_}
+use native.Mathlib.Omega.{arith}
+use borrow.Author.Needs.{needs}
+use lib.ListN.{length}
+use Rattle.size_lists.proofs.Filling.{Filling, filling-start, filling-fits, filling-next, filling-end}
+use Rattle.size_lists.proofs.fill_right.Statement.{statement}
+use Rattle.size_lists.proofs.fill_right.Tie as tie
+
+abbrev Inv-loop : tie.InvT-loop
+Inv-loop d sizes trees₀ i₀ at₀ trees i at = Filling d sizes trees i at
+
+abbrev μ-loop : tie.MeasureT-loop
+μ-loop d sizes trees₀ i₀ at₀ trees i at = length sizes - i
+
+loop-holds : tie.Need-loop-holds Inv-loop μ-loop
+loop-holds c =
+    let start = c .before .before .before in
+    let a = start .args in
+    filling-start (now (a .d)) (now (a .sizes)) (now (a .trees)) (start .pre)
+
+shared-slice-read-end : tie.Need-shared-slice-read-end Inv-loop μ-loop
+shared-slice-read-end c = search needs
+
+cast-end : tie.Need-cast-end Inv-loop μ-loop
+cast-end c = omega (arith, c .shared-slice-known3 .given (c .before .before .loop .i))
+
+add-end : tie.Need-add-end Inv-loop μ-loop
+add-end c = omega (arith, filling-fits (c .before .before .loop .inv) (omega arith))
+
+sub-fill : tie.Need-sub-fill Inv-loop μ-loop
+sub-fill c = search needs
+
+part-fill-start : tie.Need-part-fill-start Inv-loop μ-loop
+part-fill-start c = search needs
+
+part-fill-end : tie.Need-part-fill-end Inv-loop μ-loop
+part-fill-end c = filling-fits (c .before .before .loop .inv) (omega arith)
+
+fill-requires : tie.Need-fill-requires Inv-loop μ-loop
+fill-requires c κs = search needs
+
+add-i : tie.Need-add-i Inv-loop μ-loop
+add-i c = search needs
+
+loop-less : tie.Need-loop-less Inv-loop μ-loop
+loop-less c = search needs
+
+loop-again : tie.Need-loop-again Inv-loop μ-loop
+loop-again c = filling-next (c .before .before .before .before .before .before .loop .inv) _ _ (omega arith) refl (c .before .before .fill .ensures)
+
+same-length : tie.Need-same-length Inv-loop μ-loop
+same-length c = omega arith
+
+returns : tie.Need-returns Inv-loop μ-loop
+returns c = filling-end (c .before .loop .inv) (omega arith)
+
+pub fill-right-spec : {M : Type 1} → statement M
+fill-right-spec =
+    tie.close
+    (tie.spec
+    Inv-loop
+    μ-loop
+    loop-holds
+    shared-slice-read-end
+    cast-end
+    add-end
+    sub-fill
+    part-fill-start
+    part-fill-end
+    fill-requires
+    add-i
+    loop-less
+    loop-again
+    same-length
+    returns)

@@ -1,0 +1,2 @@
+-- The definitions that the contracts of size lists cite.
+pub mod SizesHeld
