@@ -1,6 +1,5 @@
 // The entries of the engine for callers in C: numbers and byte slices in, one signed number out. Of each slice C hands over a pointer and a count.
 use component_reader::stretch_of;
-use patterns::Census;
 use patterns::Isomorphism;
 use patterns::Refusal;
 use patterns::Reply;
@@ -15,8 +14,8 @@ ghost use mir.Val.{SFits};
 ghost use Rattle.patterns.specs.Replies.{Answer.refused, numberOf};
 ghost use Rattle.patterns.specs.Entry.{acceptOf, firstOf, successorOf, codeOfMap, mapOfCode};
 ghost use Rattle.patterns.specs.Replies.{answerOf};
-ghost use Rattle.patterns.specs.Replies.{censusAnswer};
-ghost use Rattle.patterns.specs.SignedReplies.{signedOf, heightIn, longestIn, Reported, IsomorphismReported, CensusReported, heightOf, longestOf};
+ghost use Rattle.patterns.specs.SignedReplies.{signedOf, Reported, IsomorphismReported, CensusReported};
+ghost use Rattle.patterns.specs.Entry.{heightOf, longestOf};
 ghost use Rattle.patterns.specs.SignedReplies.{componentStart, componentEnd};
 
 // The number of a refusal: minus the number of its cause.
@@ -43,21 +42,6 @@ fn number_of(reply: Reply) -> i64
         Reply::Length(n) => counted(n),
         Reply::Refused(cause) => refusal(cause),
     }
-}
-
-fn no_rows() -> [u8; 19]
-    ensures { λ r. ⌜ length r ≡ 19 ⌝ }
-{
-    [0u8; 19]
-}
-
-// The census of a map, its rows thrown away: 19 places hold every census.
-fn measure(table: &[u8]) -> Census
-    ensures { λ r. ⌜ (heightIn (censusAnswer r) ≡ heightOf (now (table .entry))) × (longestIn (censusAnswer r) ≡ longestOf (now (table .entry))) ⌝ }
-{
-    let mut lengths = no_rows();
-    let mut counts = no_rows();
-    engine::census_columns(table, &mut lengths, &mut counts)
 }
 
 // n, or the refusal of a code.
@@ -121,10 +105,7 @@ pub extern "C" fn lethmuok_isomorphism(f: &[u8], g: &[u8], out: &mut [u8]) -> i6
 pub extern "C" fn lethmuok_census(table: &[u8], lengths: &mut [u8], counts: &mut [u8]) -> i64
     ensures { λ r. ⌜ CensusReported (now (table .entry)) (now (lengths .entry)) (now (counts .entry)) r (now (lengths .exit)) (now (counts .exit)) ⌝ }
 {
-    match engine::census_columns(table, lengths, counts) {
-        Census::Counted(n, _, _) => counted(n),
-        Census::Refused(cause) => refusal(cause),
-    }
+    number_of(engine::cycle_columns(table, lengths, counts))
 }
 
 // The greatest distance of a point of the map `table` from its cycle.
@@ -132,10 +113,7 @@ pub extern "C" fn lethmuok_census(table: &[u8], lengths: &mut [u8], counts: &mut
 pub extern "C" fn lethmuok_height(table: &[u8]) -> i64
     ensures { λ r. ⌜ r ≡ signedOf (heightOf (now (table .entry))) ⌝ }
 {
-    match measure(table) {
-        Census::Counted(_, height, _) => counted(height),
-        Census::Refused(cause) => refusal(cause),
-    }
+    number_of(engine::height(table))
 }
 
 // The length of the longest cycle of the map `table`.
@@ -143,10 +121,7 @@ pub extern "C" fn lethmuok_height(table: &[u8]) -> i64
 pub extern "C" fn lethmuok_longest_cycle(table: &[u8]) -> i64
     ensures { λ r. ⌜ r ≡ signedOf (longestOf (now (table .entry))) ⌝ }
 {
-    match measure(table) {
-        Census::Counted(_, _, longest) => counted(longest),
-        Census::Refused(cause) => refusal(cause),
-    }
+    number_of(engine::longest_cycle(table))
 }
 
 // Where the bytes of the component at `position`, counted from 0, begin in `code`.

@@ -8,8 +8,8 @@ ghost use mathlib.Core.Bool.{true};
 ghost use mathlib.Core.List.{List, map};
 ghost use Prim.Native.Nat.{ℕ, _+_, _<_};
 ghost use lib.ListN.{length};
-ghost use Rattle.patterns.specs.Table.{image, isTable};
-ghost use Rattle.cycles.specs.Marks.{lengthLed, MarksAsked, Images, Far, Marked, MarkedPoint};
+ghost use Rattle.patterns.specs.Table.{image, isTable, cycleFrom};
+ghost use Rattle.cycles.specs.Marks.{MarksAsked, Images, Far, Marked, CyclePoint};
 
 // `out` is the table of two steps of the table `s`.
 fn square(s: &[u8], out: &mut [u8])
@@ -70,20 +70,14 @@ pub fn mark_cycles(f: &[u8], marks: &mut [u8])
     mark_reached(f, &mut far[..f.len()], marks);
 }
 
-// The length of the cycle whose least point is `x`, and 0 where there is none.
-pub fn length_led(f: &[u8], marks: &[u8], x: usize) -> usize
-    requires { ⌜ MarkedPoint (now f) (now marks) x ⌝ }
-    ensures { λ r. ⌜ r ≡ lengthLed (length (now (f .entry))) (image (now (f .entry))) x ⌝ }
+// The length of the cycle of `x`, which is on one.
+pub fn cycle_length(f: &[u8], x: usize) -> usize
+    requires { ⌜ CyclePoint (now f) x ⌝ }
+    ensures { λ r. ⌜ r ≡ length (cycleFrom (length (now (f .entry))) (image (now (f .entry))) x) ⌝ }
 {
-    if marks[x] == 0 {
-        return 0;
-    }
     let mut length = 1;
     let mut y = f[x] as usize;
     while y != x {
-        if y < x {
-            return 0;
-        }
         y = f[y] as usize;
         length += 1;
     }
