@@ -10,10 +10,13 @@ use lib.ListN.{length, getD, set, length-set}
 use lib.Seq.{getD-set-same, getD-set-other}
 use Rattle.lists.proofs.Tests.{by-test, no-both}
 use Rattle.patterns.specs.Table.{image, isTable, onCycle}
+use Rattle.patterns.specs.Census.{height}
+use Rattle.tables.specs.Tables.{Table}
+use Rattle.map_theory.proofs.Maxima.{heightTo, heightTo-start, heightTo-taken, heightTo-passed, heightTo-all}
 use Rattle.map_theory.proofs.Distances.{steps-on, distance-bound, distance-next}
 use Rattle.cycles.specs.Marks.{Marked}
 use Rattle.cycles.proofs.Marks.{inside, marks-on, marks-off}
-use Rattle.distances.specs.Noted.{distanceIn, Noted, NotedTable}
+use Rattle.distances.specs.Noted.{distanceIn, Noted, NotedTable, Within, WayNoted}
 
 -- the marks of the points on cycles note their distances
 pub marks-noted : {f marks : List ℕ} → Marked f marks → Noted f marks
@@ -68,24 +71,92 @@ noted-more {f} {noted} n y h {d} e =
           (λ q. n .off-cycles x b (sym (getD-set-other noted y x d 0 (eqb-false x y q)) ∙ z));
     }
 
--- y is the next point to note, with one more than its distance
-pub record NotingWay (f noted : List ℕ) (y d : ℕ) : Type 0 where
+-- a list with one number more keeps its bound
+within-set : {m : ℕ} (l : List ℕ) → Within m l → (y : ℕ) → y < length l → {d : ℕ} → d ≤ m → Within m (set l y d)
+within-set l w y h {d} b z a =
+    by-test (eqb z y)
+    (λ q. rw (eqb-true z y q, getD-set-same l y d 0 h) b)
+    (λ q. rw (getD-set-other l y z d 0 (eqb-false z y q)) (w z (rw length-set at a)))
+
+-- y is the next point to note, with one more than its distance, on the way from a point of distance k
+pub record NotingWay (f noted₀ : List ℕ) (k : ℕ) (noted : List ℕ) (y d : ℕ) : Type 0 where
   pub known : NotedTable f noted
   pub point : y < length f
   pub next : d ≡ suc (distanceIn f y)
+  pub nearer : d ≤ suc k
+  pub within : (m : ℕ) → suc k ≤ m → Within m noted₀ → Within m noted
 
-pub noting-start : {f noted : List ℕ} → NotedTable f noted → {x d : ℕ} → x < length f → d ≡ distanceIn f x → NotingWay f noted x (d + 1)
-noting-start t h e = record { known = t; point = h; next = omega arith }
+pub noting-start : {f noted : List ℕ} → NotedTable f noted → {x d : ℕ} → x < length f → d ≡ distanceIn f x → NotingWay f noted d noted x (d + 1)
+noting-start t h e = record { known = t; point = h; next = omega arith; nearer = omega arith; within = λ m b w. w }
 
-module _ {f noted : List ℕ} {y d : ℕ} (w : NotingWay f noted y d) where
+module _ {f noted₀ noted : List ℕ} {k y d : ℕ} (w : NotingWay f noted₀ k noted y d) where
   -- what is noted fits a byte
   pub noting-byte : (0 < d) × (d ≤ 200)
   noting-byte = (omega (arith, w .next), omega (arith, w .next, near (w .known) y (w .point), w .known .small))
 
-  pub noting-next : getD noted y 0 ≡ 0 → NotingWay f (set noted y d) (image f y) (d - 1)
+  pub noting-next : getD noted y 0 ≡ 0 → NotingWay f noted₀ k (set noted y d) (image f y) (d - 1)
   noting-next e =
       record {
         known = renoted (w .known) (noted-more (w .known .isNoted) y (w .point) (w .next));
         point = inside f (w .known .table) y (w .point);
         next = omega (arith, w .next, further (w .known) y (w .point) e);
+        nearer = omega (arith, w .nearer);
+        within = λ m b v. within-set noted (w .within m b v) y (omega (arith, w .point, w .known .isNoted .same)) (omega (arith, w .nearer));
       }
+
+  pub noting-end : WayNoted f noted₀ k noted
+  noting-end = record { isNoted = w .known .isNoted; within = w .within }
+
+-- The greatest distance of the points below x, and the notes so far: none is greater.
+pub record Measuring (f noted : List ℕ) (most x : ℕ) : Type 0 where
+  pub known : NotedTable f noted
+  pub passed : x ≤ length f
+  pub most-is : most ≡ heightTo (length f) (image f) x
+  pub none-greater : Within (suc most) noted
+
+pub measuring-start : {f marks : List ℕ} → Table f → Marked f marks → Measuring f marks 0 0
+measuring-start {f} {marks} t m =
+    record {
+      known = record { table = t .table; small = t .small; isNoted = marks-noted m };
+      passed = omega arith;
+      most-is = sym (heightTo-start (length f) (image f));
+      none-greater = λ z b.
+          rw (m .marks-are z (omega (arith, m .same))) (by-test (onCycle (length f) (image f) z) (λ c. rw c (omega arith)) (λ c. rw c (omega arith)));
+    }
+
+module _ {f noted : List ℕ} {most x : ℕ} (s : Measuring f noted most x) (h : x < length f) where
+  -- a point that is noted
+  pub measuring-noted : (getD noted x 0 ≡ 0 → ⊥) → Measuring f noted most (x + 1)
+  measuring-noted e =
+      record {
+        known = s .known;
+        passed = omega arith;
+        most-is = heightTo-passed (length f) (image f) x (s .most-is) refl (omega (arith, s .known .isNoted .right x h e, s .none-greater x (omega (arith, s .known .isNoted .same))));
+        none-greater = s .none-greater;
+      }
+
+  module _ {d : ℕ} (e : d ≡ distanceIn f x) {noted′ : List ℕ} (w : WayNoted f noted d noted′) where
+    -- a point that is further than all before
+    pub measuring-further : most ≤ d → Measuring f noted′ d (x + 1)
+    measuring-further b =
+        record {
+          known = renoted (s .known) (w .isNoted);
+          passed = omega arith;
+          most-is = heightTo-taken (length f) (image f) x (s .most-is) e b;
+          none-greater = w .within (suc d) (omega arith) (λ z a. omega (arith, s .none-greater z a));
+        }
+
+    -- any other
+    pub measuring-nearer : d ≤ most → Measuring f noted′ most (x + 1)
+    measuring-nearer b =
+        record {
+          known = renoted (s .known) (w .isNoted);
+          passed = omega arith;
+          most-is = heightTo-passed (length f) (image f) x (s .most-is) e b;
+          none-greater = w .within (suc most) (omega arith) (s .none-greater);
+        }
+
+pub measuring-end : {f noted : List ℕ} {most x : ℕ} → Measuring f noted most x → length f ≤ x → most ≡ height (length f) (image f)
+measuring-end {f} {x = x} s h =
+    let e : x ≡ length f = omega (arith, s .passed) in
+    s .most-is ∙ ap (heightTo (length f) (image f)) e ∙ heightTo-all (length f) (image f)

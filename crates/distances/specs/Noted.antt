@@ -32,3 +32,12 @@ pub record NotedPoint (f noted : List ℕ) (x : ℕ) : Type 0 where
 pub record DistanceKnown (f noted : List ℕ) (x d : ℕ) : Type 0 where
   pub point : NotedPoint f noted x
   pub distance : d ≡ distanceIn f x
+
+-- every number of a list is at most m
+abbrev pub Within : ℕ → List ℕ → Type 0
+Within m l = (z : ℕ) → z < length l → getD l z 0 ≤ m
+
+-- d and lesser distances are noted
+pub record WayNoted (f noted : List ℕ) (d : ℕ) (noted′ : List ℕ) : Type 0 where
+  pub isNoted : Noted f noted′
+  pub within : (m : ℕ) → suc d ≤ m → Within m noted → Within m noted′

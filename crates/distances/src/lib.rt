@@ -7,7 +7,8 @@ ghost use lib.ListN.{length};
 ghost use Rattle.patterns.specs.Table.{image};
 ghost use Rattle.patterns.specs.Census.{stepsToCycle, height as heightOf};
 ghost use Rattle.tables.specs.Tables.{Table};
-ghost use Rattle.distances.specs.Noted.{Noted, NotedPoint, DistanceKnown, NotedTable};
+ghost use Rattle.cycles.specs.Marks.{Marked};
+ghost use Rattle.distances.specs.Noted.{NotedPoint, DistanceKnown, WayNoted};
 
 // The steps from `x` to its cycle: those to the first point whose distance is noted, and that distance.
 fn distance(f: &[u8], noted: &[u8], x: usize) -> usize
@@ -27,7 +28,7 @@ fn distance(f: &[u8], noted: &[u8], x: usize) -> usize
 // Notes the distance of `x` and of the points after it, up to the first whose distance is noted already.
 fn note_way(f: &[u8], noted: &mut [u8], x: usize, distance: usize)
     requires { ⌜ DistanceKnown (now f) (now noted) x distance ⌝ }
-    ensures { λ r. ⌜ Noted (now (f .entry)) (now (noted .exit)) ⌝ }
+    ensures { λ r. ⌜ WayNoted (now (f .entry)) (now (noted .entry)) distance (now (noted .exit)) ⌝ }
 {
     let mut y = x;
     let mut note = distance + 1;
@@ -38,18 +39,20 @@ fn note_way(f: &[u8], noted: &mut [u8], x: usize, distance: usize)
     }
 }
 
-// The greatest distance of a point from its cycle; all distances are noted.
-fn noted_height(f: &[u8], noted: &mut [u8]) -> usize
-    requires { ⌜ NotedTable (now f) (now noted) ⌝ }
+// The greatest distance of a point from its cycle; the marks become notes. A point that is noted already is no further than one before.
+fn marked_height(f: &[u8], marks: &mut [u8]) -> usize
+    requires { ⌜ Table (now f) × Marked (now f) (now marks) ⌝ }
     ensures { λ r. ⌜ r ≡ heightOf (length (now (f .entry))) (image (now (f .entry))) ⌝ }
 {
     let mut most = 0;
     let mut x = 0;
     while x < f.len() {
-        let steps = distance(f, noted, x);
-        note_way(f, noted, x, steps);
-        if most <= steps {
-            most = steps;
+        if marks[x] == 0 {
+            let steps = distance(f, marks, x);
+            note_way(f, marks, x, steps);
+            if most <= steps {
+                most = steps;
+            }
         }
         x += 1;
     }
@@ -62,7 +65,7 @@ pub fn height(f: &[u8]) -> usize
     ensures { λ r. ⌜ r ≡ heightOf (length (now (f .entry))) (image (now (f .entry))) ⌝ }
 {
     let n = f.len();
-    let mut noted = points_room();
-    cycles::mark_cycles(f, &mut noted[..n]);
-    noted_height(f, &mut noted[..n])
+    let mut marks = points_room();
+    cycles::mark_cycles(f, &mut marks[..n]);
+    marked_height(f, &mut marks[..n])
 }

@@ -7,15 +7,14 @@ use borrow.Author.Needs.{needs}
 use lib.ListN.{length}
 use lib.Seq.{length-take-le}
 use Rattle.cycles.proofs.Marks.{marks-within, marks-back}
-use Rattle.distances.proofs.Noting.{marks-noted}
 use Rattle.distances.proofs.height.Statement.{statement}
 use Rattle.distances.proofs.height.Tie as tie
 
 -- the places that the needs speak of, each named once
-abbrev start : tie.After-noted → tie.Start
+abbrev start : tie.After-marks → tie.Start
 start c = c .before .before .before
 
-abbrev marked : tie.After-noted3 → tie.After-mark-cycles
+abbrev marked : tie.After-marks3 → tie.After-mark-cycles
 marked c = c .before .before
 
 slice-aggregate-mark-cycles : tie.Need-slice-aggregate-mark-cycles
@@ -26,17 +25,16 @@ mark-cycles-requires c κs =
     let p = start c .pre in
     record { table = p .table; room = length-take-le _ _ (omega (arith, p .small, c .before .points-room .ensures)); small = p .small }
 
-array-borrow-prefix-noted-2 : tie.Need-array-borrow-prefix-noted-2
-array-borrow-prefix-noted-2 c = marks-within (c .before .mark-cycles .ensures) _
+array-borrow-prefix-marks-2 : tie.Need-array-borrow-prefix-marks-2
+array-borrow-prefix-marks-2 c = marks-within (c .before .mark-cycles .ensures) _
 
-slice-aggregate-noted-height : tie.Need-slice-aggregate-noted-height
-slice-aggregate-noted-height c = sym (marks-back (marked c .mark-cycles .ensures) _ .same)
+slice-aggregate-marked-height : tie.Need-slice-aggregate-marked-height
+slice-aggregate-marked-height c = sym (marks-back (marked c .mark-cycles .ensures) _ .same)
 
-noted-height-requires : tie.Need-noted-height-requires
-noted-height-requires c κs =
+marked-height-requires : tie.Need-marked-height-requires
+marked-height-requires c κs =
     let m = marked c in
-    let p = start (m .before) .pre in
-    record { table = p .table; small = p .small; isNoted = marks-noted (marks-back (m .mark-cycles .ensures) _) }
+    (start (m .before) .pre, marks-back (m .mark-cycles .ensures) _)
 
 pub height-spec : {M : Type 1} → statement M
 height-spec =
@@ -46,7 +44,7 @@ height-spec =
     (λ c. search needs)
     slice-aggregate-mark-cycles
     mark-cycles-requires
-    array-borrow-prefix-noted-2
-    slice-aggregate-noted-height
-    noted-height-requires
+    array-borrow-prefix-marks-2
+    slice-aggregate-marked-height
+    marked-height-requires
     (λ c. search needs))

@@ -3,12 +3,12 @@ use mathlib.Core.Path.{sym, _∙_}
 use native.Mathlib.Omega.{arith}
 use borrow.Author.Needs.{needs}
 use lib.ListN.{length}
-use Rattle.distances.proofs.Noting.{NotingWay, near, noting-start, noting-byte, noting-next}
+use Rattle.distances.proofs.Noting.{NotingWay, near, noting-start, noting-byte, noting-next, noting-end}
 use Rattle.distances.proofs.note_way.Statement.{statement}
 use Rattle.distances.proofs.note_way.Tie as tie
 
 abbrev Inv-loop : tie.InvT-loop
-Inv-loop f noted₀ x distance y₀ note₀ noted y note = NotingWay f noted y note
+Inv-loop f noted₀ x distance y₀ note₀ noted y note = NotingWay f noted₀ distance noted y note
 
 abbrev μ-loop : tie.MeasureT-loop
 μ-loop f noted₀ x distance y₀ note₀ noted y note = note
@@ -48,7 +48,7 @@ same-length c =
     l .loop .inv .known .isNoted .same ∙ sym (l .before .pre .point .known .isNoted .same)
 
 returns : tie.Need-returns Inv-loop μ-loop
-returns c = c .before .before .loop .inv .known .isNoted
+returns c = noting-end (c .before .before .loop .inv)
 
 pub note-way-spec : {M : Type 1} → statement M
 note-way-spec =
