@@ -53,6 +53,7 @@ fn main() {
     table("Successors of codes of 200 points", work::successors());
     table("Code of a map of 200 points", work::codes());
     table("Isomorphism of two maps of 200 points", work::isomorphisms());
+    table("Census of a map of 200 points", work::censuses());
     table("Other entries on random maps of 200 points", work::others());
     if let Some(file) = std::env::args().nth(1) {
         labelg::table(file.as_ref());

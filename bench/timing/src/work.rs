@@ -140,25 +140,42 @@ pub fn isomorphisms() -> Vec<Work> {
     works
 }
 
+/// Equal replies, and equal bytes.
+fn equal<T>(_: &T, [engine, reference]: [&Result<Vec<u8>, i64>; 2]) -> bool {
+    engine == reference
+}
+
 /// The rest of the entries.
 pub fn others() -> Vec<Work> {
-    let equal = |_: &Vec<u8>, [engine, reference]: [&Result<Vec<u8>, i64>; 2]| engine == reference;
-    let tables = tables(KINDS[0], 100);
-    let codes: Vec<Vec<u8>> = tables.iter().map(|table| code_of(table)).collect();
+    let codes: Vec<Vec<u8>> = tables(KINDS[0], 100).iter().map(|table| code_of(table)).collect();
     vec![
         calls("accept", codes.clone(), |side, code, _| (side.accept)(code).min(0), equal),
         calls("map of a code", codes, |side, code, out| (side.map_of_code)(code, out), equal),
-        calls("census, in rising order", tables, |side, table, out| sorted_census(side, table, out), equal),
     ]
 }
 
-/// The order of the rows of a census is left open.
-fn sorted_census(side: &Side, table: &[u8], out: &mut [u8]) -> i64 {
+/// The rows of a census, lengths in the first half of the output and counts in the other.
+fn census(side: &Side, table: &[u8], out: &mut [u8]) -> i64 {
     let (lengths, counts) = out.split_at_mut(500);
-    let rows = (side.census)(table, lengths, counts);
-    let mut both: Vec<[u8; 2]> = lengths.iter().zip(counts.iter()).map(|(&l, &c)| [l, c]).take(rows as usize).collect();
+    (side.census)(table, lengths, counts)
+}
+
+/// The same, sorted: their order is left open.
+fn sorted_census(side: &Side, table: &[u8]) -> Vec<[u8; 2]> {
+    let mut out = [0; 1000];
+    let rows = census(side, table, &mut out) as usize;
+    let mut both: Vec<[u8; 2]> = (0..rows).map(|i| [out[i], out[500 + i]]).collect();
     both.sort();
-    let flat = both.concat();
-    out[..flat.len()].copy_from_slice(&flat);
-    flat.len() as i64
+    both
+}
+
+/// Of each kind of map the rows of its census, and its greatest distance.
+pub fn censuses() -> Vec<Work> {
+    let rows = |kind: Kind| {
+        let tables = tables(kind, 100);
+        let timed = calls(&format!("rows: {}", kind.0), tables.clone(), |side, table, out| census(side, table, out), equal);
+        Work { agree: Box::new(move || tables.iter().all(|table| sorted_census(&ENGINE, table) == sorted_census(&REFERENCE, table))), ..timed }
+    };
+    let height = |kind: Kind| calls(&format!("height: {}", kind.0), tables(kind, 100), |side, table, _| (side.height)(table), equal);
+    KINDS.into_iter().map(rows).chain(KINDS.into_iter().map(height)).collect()
 }

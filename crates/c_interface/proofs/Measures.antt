@@ -1,5 +1,5 @@
 -- The numbers of a census: a table of at most 200 points has at most 19 rows, and height and longest cycle are at most its number of points.
-use mathlib.Core.Path.{_≡_, refl, sym, _∙_}
+use mathlib.Core.Path.{_≡_, refl, sym, ap, _∙_, subst}
 use mathlib.Core.Bool.{true}
 use mathlib.Core.List.{List, [], _∷_, map}
 use Prim.Native.Nat.{ℕ, zero, suc, _≤_}
@@ -9,21 +9,21 @@ use lib.IntN.{ℤ}
 use lib.ListN.{length}
 use mir.Syntax.{w64}
 use mir.Val.{toZ, ofZ}
-use borrow.Author.Tests.{le-leb, ltb-false}
+use borrow.Author.Tests.{ltb-false}
 use Rattle.lists.specs.Select.{total, range}
 use Rattle.lists.proofs.Tests.{by-test}
 use Rattle.patterns.specs.declared.Refusal.the-variants.{Count, Image, Room}
 use Rattle.patterns.specs.Table.{image, isTable, onCycle}
 use Rattle.patterns.specs.Census.{greatest, Row, stepsToCycle, height, longestCycle, cycleLengths}
 use Rattle.patterns.specs.Reading.{Result, done}
-use Rattle.patterns.specs.Replies.{length-is, CensusAnswer}
+use Rattle.patterns.specs.Replies.{Answer, length-is, CensusAnswer}
 use Rattle.patterns.specs.Entry.{checkedTable, answer, Counted, table-refused, counted, censusAnswered}
 use Rattle.map_theory.proofs.Isomorphisms.{table-below}
 use Rattle.map_theory.proofs.CensusTheory.{lengths-add-up, cycle-points-bound, census-fits}
 use Rattle.patterns.specs.Census.{rowsOf}
-use Rattle.patterns.specs.Entry.{RowsReplied}
+use Rattle.patterns.specs.Entry.{entriesOf, ColumnsReplied, heightOf, longestOf}
 use Rattle.tables.proofs.Tables.{checked-table}
-use Rattle.patterns.specs.SignedReplies.{signedOf, entriesOf, heightIn, longestIn, heightOf, longestOf, CensusReported}
+use Rattle.patterns.specs.SignedReplies.{signedOf, CensusReported}
 use Rattle.c_interface.proofs.Fitting.{Fits, read-back, refused-fits, small-fits}
 
 module _ (n : ℕ) (f : ℕ → ℕ) where
@@ -75,32 +75,17 @@ module _ (f : List ℕ) where
       let t = checked-table f e in
       census-fits (length f) (image f) (table-below (length f) f refl (t .table)) rows c (t .small)
 
--- rows side by side in two lists of equal length
-rows-beside : (a b : List ℕ) → length b ≡ length a → length (rowsOf a b) ≡ length a
-rows-beside [] b e = refl
-rows-beside (x ∷ a) [] e = absurd (omega arith)
-rows-beside (x ∷ a) (y ∷ b) e = let i = rows-beside a b (omega arith) in omega arith
-
-module _ {f lengths counts lengths′ counts′ : List ℕ} {a : CensusAnswer} (p : RowsReplied f lengths counts a lengths′ counts′) where
-  pub entries-fits : Fits (entriesOf a)
-  entries-fits = of (p .rows .found) (p .rows .isCensus) (p .rows .reply)
+-- the rows in two columns
+module _ {f lengths counts lengths′ counts′ : List ℕ} {a : Answer} (p : ColumnsReplied f lengths counts a lengths′ counts′) where
+  pub columns-fit : Fits a
+  columns-fit = subst Fits (sym (p .reply)) (of (p .census) (p .replied .rows .found) (p .replied .rows .isCensus) (p .replied .rows .reply))
     where
-      of : (o : Result (List Row)) → Counted f o → a ≡ censusAnswered f o (rowsOf lengths counts) → Fits (entriesOf a)
-      of o (table-refused {c = c} e) r = rw r (refused-fits c)
-      of o (counted {rows = rows} e c) r =
+      of : (q : CensusAnswer) (o : Result (List Row)) → Counted f o → q ≡ censusAnswered f o (rowsOf lengths counts) → Fits (entriesOf q)
+      of q o (table-refused {c = c} e) r = rw r (refused-fits c)
+      of q o (counted {rows = rows} e c) r =
           by-test (leb (length rows) (length (rowsOf lengths counts)))
           (λ t. rw (r, t) (let k = rows-few f rows e (counted e c) in small-fits (length rows) (omega arith)))
           (λ t. rw (r, t) (refused-fits Room))
 
-  pub census-reported : {z : ℤ} → z ≡ signedOf (entriesOf a) → CensusReported f lengths counts (toZ w64 (ofZ w64 z)) lengths′ counts′
-  census-reported e = record { reply = a; number = read-back e entries-fits; replied = p }
-
-  -- 19 places are enough for the rows
-  pub measured : length lengths ≡ 19 → length counts ≡ 19 → (heightIn a ≡ heightOf f) × (longestIn a ≡ longestOf f)
-  measured h k = of (p .rows .found) (p .rows .isCensus) (p .rows .reply)
-    where
-      of : (o : Result (List Row)) → Counted f o → a ≡ censusAnswered f o (rowsOf lengths counts) → (heightIn a ≡ heightOf f) × (longestIn a ≡ longestOf f)
-      of o (table-refused {c = c} e) r = (rw (r, e), rw (r, e))
-      of o (counted {rows = rows} e c) r =
-          let t = le-leb (length rows) (length (rowsOf lengths counts)) (omega (arith, rows-few f rows e (counted e c), rows-beside lengths counts (k ∙ sym h))) in
-          (rw (r, t, e), rw (r, t, e))
+  pub census-reported : {z : ℤ} → z ≡ signedOf a → CensusReported f lengths counts (toZ w64 (ofZ w64 z)) lengths′ counts′
+  census-reported e = record { reply = p .census; number = read-back e columns-fit ∙ ap signedOf (p .reply); replied = p .replied }

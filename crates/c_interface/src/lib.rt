@@ -1,35 +1,14 @@
 // The entries of the engine for callers in C: numbers and byte slices in, one signed number out. Of each slice C hands over a pointer and a count.
 use component_parts::stretch_of;
-use patterns::Census;
-use signed_replies::counted;
 use signed_replies::end_number;
 use signed_replies::isomorphism_number;
-use signed_replies::refusal;
 use signed_replies::reply_number;
 use signed_replies::start_number;
 use signed_replies::successor_number;
 ghost use denote.Ref.{now};
 ghost use mathlib.Core.Path.{_≡_};
-ghost use lib.ListN.{length};
-ghost use Rattle.patterns.specs.Entry.{acceptOf, firstOf, successorOf, codeOfMap, mapOfCode};
-ghost use Rattle.patterns.specs.Replies.{censusAnswer};
-ghost use Rattle.patterns.specs.SignedReplies.{signedOf, heightIn, longestIn, Reported, IsomorphismReported, CensusReported, heightOf, longestOf};
-ghost use Rattle.patterns.specs.SignedReplies.{componentStart, componentEnd};
-
-fn no_rows() -> [u8; 19]
-    ensures { λ r. ⌜ length r ≡ 19 ⌝ }
-{
-    [0u8; 19]
-}
-
-// The census of a map, its rows thrown away: 19 places hold every census.
-fn measure(table: &[u8]) -> Census
-    ensures { λ r. ⌜ (heightIn (censusAnswer r) ≡ heightOf (now (table .entry))) × (longestIn (censusAnswer r) ≡ longestOf (now (table .entry))) ⌝ }
-{
-    let mut lengths = no_rows();
-    let mut counts = no_rows();
-    engine::census_columns(table, &mut lengths, &mut counts)
-}
+ghost use Rattle.patterns.specs.Entry.{acceptOf, firstOf, successorOf, codeOfMap, mapOfCode, heightOf, longestOf};
+ghost use Rattle.patterns.specs.SignedReplies.{signedOf, Reported, IsomorphismReported, CensusReported, componentStart, componentEnd};
 
 // n, or the refusal of a code.
 #[no_mangle]
@@ -84,10 +63,7 @@ pub extern "C" fn lethmuok_isomorphism(f: &[u8], g: &[u8], out: &mut [u8]) -> i6
 pub extern "C" fn lethmuok_census(table: &[u8], lengths: &mut [u8], counts: &mut [u8]) -> i64
     ensures { λ r. ⌜ CensusReported (now (table .entry)) (now (lengths .entry)) (now (counts .entry)) r (now (lengths .exit)) (now (counts .exit)) ⌝ }
 {
-    match engine::census_columns(table, lengths, counts) {
-        Census::Counted(n, _, _) => counted(n),
-        Census::Refused(cause) => refusal(cause),
-    }
+    reply_number(engine::cycle_columns(table, lengths, counts))
 }
 
 // The greatest distance of a point of the map `table` from its cycle.
@@ -95,10 +71,7 @@ pub extern "C" fn lethmuok_census(table: &[u8], lengths: &mut [u8], counts: &mut
 pub extern "C" fn lethmuok_height(table: &[u8]) -> i64
     ensures { λ r. ⌜ r ≡ signedOf (heightOf (now (table .entry))) ⌝ }
 {
-    match measure(table) {
-        Census::Counted(_, height, _) => counted(height),
-        Census::Refused(cause) => refusal(cause),
-    }
+    reply_number(engine::height(table))
 }
 
 // The length of the longest cycle of the map `table`.
@@ -106,10 +79,7 @@ pub extern "C" fn lethmuok_height(table: &[u8]) -> i64
 pub extern "C" fn lethmuok_longest_cycle(table: &[u8]) -> i64
     ensures { λ r. ⌜ r ≡ signedOf (longestOf (now (table .entry))) ⌝ }
 {
-    match measure(table) {
-        Census::Counted(_, _, longest) => counted(longest),
-        Census::Refused(cause) => refusal(cause),
-    }
+    reply_number(engine::longest_cycle(table))
 }
 
 // Where the bytes of the component at `position`, counted from 0, begin in `code`.

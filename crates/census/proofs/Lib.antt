@@ -3,6 +3,4 @@ pub mod CensusRows
 pub mod Counting
 pub mod RowsListed
 pub mod Filling
-pub mod Maxima
 pub mod Points
-pub mod Stepping

@@ -1,15 +1,10 @@
--- The first places of an array: marks written into them, and zeros.
+-- The first places of an array of zeros.
 use mathlib.Core.Path.{_≡_, ap, sym, _∙_}
-use mathlib.Core.List.{List, _++_}
+use mathlib.Core.List.{List}
 use Prim.Native.Nat.{ℕ, _+_, _-_, _≤_}
 use native.Mathlib.Omega.{arith}
 use lib.ListN.{length, take, replicate, length-replicate, replicate-append-replicate}
 use lib.Seq.{take-at}
-use Rattle.cycles.specs.Marks.{Marked}
-
--- marks written into the first places of an array
-pub marks-back : {f marks : List ℕ} → Marked f marks → (d : List ℕ) → take (length f) (marks ++ d) ≡ marks
-marks-back {f} {marks} m d = take-at marks d (length f) (m .same)
 
 -- the first places of an array of zeros
 pub zeros-taken : {z : List ℕ} (n k : ℕ) → z ≡ replicate n 0 → k ≤ n → take k z ≡ replicate k 0

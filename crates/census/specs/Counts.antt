@@ -6,13 +6,13 @@ use Prim.Native.Nat.{ℕ, _≤_, _<_, _+_}
 use lib.ListN.{length, getD, replicate}
 use Rattle.patterns.specs.Table.{image, isTable}
 use Rattle.patterns.specs.Census.{cyclesOf}
-use Rattle.cycles.specs.Marks.{Marked}
+use Rattle.links.specs.Leads.{Leads}
 
--- a table f of at most 200 points with its marks, and a 0 for every number from 0 to the number of points
-pub record Blank (f marks counts : List ℕ) : Type 0 where
+-- a table f of at most 200 points with the leaders of its cycles, and a 0 for every number from 0 to the number of points
+pub record Blank (f leads counts : List ℕ) : Type 0 where
   pub table : isTable f ≡ true
-  pub marked : Marked f marks
   pub small : length f ≤ 200
+  pub leaders : Leads f leads
   pub zeros : counts ≡ replicate (length f + 1) 0
 
 -- the number of cycles of each length

@@ -7,9 +7,8 @@ use lib.Dec.{eqb}
 use lib.ListN.{length, getD, take, drop}
 use Rattle.lists.specs.Select.{keep, range}
 use Rattle.patterns.specs.Table.{image}
-use Rattle.patterns.specs.Census.{Row, rowsOf, Census, height, longestCycle}
+use Rattle.patterns.specs.Census.{Row, rowsOf, Census}
 use Rattle.census.specs.declared.Rows.{Rows}
-use Rattle.census.specs.declared.Measured.{Measured}
 
 -- the numbers from 1 on at which the list of counts is not 0
 abbrev pub counted : List ℕ → List ℕ
@@ -36,9 +35,3 @@ rowsIn r = rowsOf (take (r .rows) (r .lengths)) (take (r .rows) (r .counts))
 pub record RowsOf (f : List ℕ) (r : Rows) : Type 0 where
   pub isCensus : Census (length f) (image f) (rowsIn r)
   pub few : r .rows ≤ 19
-
--- r is the census of the table f
-pub record CensusOf (f : List ℕ) (r : Measured) : Type 0 where
-  pub rows-are : RowsOf f (r .rows)
-  pub height-is : r .height ≡ height (length f) (image f)
-  pub longest-is : r .longest ≡ longestCycle (length f) (image f)

@@ -1,17 +1,18 @@
-// The census of a map in running code [document 01, "Refusing", last but one paragraph]: which cycle lengths occur and how often, the greatest
-// distance of a point from its cycle, and the longest cycle.
+// The rows of the census of a map in running code [document 01, "Refusing", last but one paragraph]: which cycle lengths occur and how often. And the longest
+// cycle, which is read off them.
 use patterns::Row;
+use patterns::points_room;
 ghost use denote.Ref.{now};
 ghost use mathlib.Core.Path.{_≡_};
-ghost use mathlib.Core.Bool.{true};
 ghost use mathlib.Core.List.{List, _++_, map};
 ghost use Prim.Native.Nat.{ℕ, _<_, _≤_};
 ghost use lib.ListN.{length, take, drop, replicate};
-ghost use Rattle.patterns.specs.Table.{image, isTable};
-ghost use Rattle.patterns.specs.Census.{stepsToCycle, height as heightOf, longestCycle as longestOf, greatest as greatestOf};
-ghost use Rattle.cycles.specs.Marks.{Marked, MarkedPoint};
+ghost use Rattle.patterns.specs.Table.{image};
+ghost use Rattle.patterns.specs.Census.{longestCycle as longestOf, greatest as greatestOf};
+ghost use Rattle.tables.specs.Tables.{Table};
+ghost use Rattle.cycles.specs.Marks.{Marked};
 ghost use Rattle.census.specs.Counts.{Blank, Counts};
-ghost use Rattle.census.specs.Rows.{RowsRoom, Listed, RowsOf, CensusOf};
+ghost use Rattle.census.specs.Rows.{RowsRoom, Listed, RowsOf};
 ghost use Rattle.patterns.specs.Census.{rowsOf};
 ghost use Rattle.patterns.specs.Replies.{rowOf};
 ghost use Rattle.census.specs.Entries.{rowIn};
@@ -23,22 +24,17 @@ pub struct Rows {
     pub rows: usize,
 }
 
-// The rows of a census, the greatest distance of a point from its cycle, and the longest cycle.
-pub struct Measured {
-    pub rows: Rows,
-    pub height: usize,
-    pub longest: usize,
-}
-
-// Counts the cycles by their length: `counts[l]` for l from 1 on. `counts[0]` counts the points that lead no cycle.
-fn count_cycles(f: &[u8], marks: &[u8], counts: &mut [u8])
-    requires { ⌜ Blank (now f) (now marks) (now counts) ⌝ }
+// Counts the cycles by their length, each where its leader comes: `counts[l]` for l from 1 on.
+fn count_cycles(f: &[u8], leads: &[u8], counts: &mut [u8])
+    requires { ⌜ Blank (now f) (now leads) (now counts) ⌝ }
     ensures { λ r. ⌜ Counts (now (f .entry)) (now (counts .exit)) ⌝ }
 {
     let mut x = 0;
     while x < f.len() {
-        let l = cycles::length_led(f, marks, x);
-        counts[l] += 1;
+        if leads[x] as usize == x {
+            let l = cycles::cycle_length(f, x);
+            counts[l] += 1;
+        }
         x += 1;
     }
 }
@@ -63,37 +59,6 @@ fn list_rows(tallies: &[u8], lengths: &mut [u8], counts: &mut [u8]) -> usize
     rows
 }
 
-// The steps from `x` to its cycle.
-fn steps_to_cycle(f: &[u8], marks: &[u8], x: usize) -> usize
-    requires { ⌜ MarkedPoint (now f) (now marks) x ⌝ }
-    ensures { λ r. ⌜ r ≡ stepsToCycle (length (now (f .entry))) (image (now (f .entry))) (length (now (f .entry))) x ⌝ }
-{
-    let mut steps = 0;
-    let mut y = x;
-    while marks[y] == 0 {
-        y = f[y] as usize;
-        steps += 1;
-    }
-    steps
-}
-
-// The greatest distance of a point from its cycle.
-fn height(f: &[u8], marks: &[u8]) -> usize
-    requires { ⌜ (isTable (now f) ≡ true) × Marked (now f) (now marks) ⌝ }
-    ensures { λ r. ⌜ r ≡ heightOf (length (now (f .entry))) (image (now (f .entry))) ⌝ }
-{
-    let mut most = 0;
-    let mut x = 0;
-    while x < f.len() {
-        let steps = steps_to_cycle(f, marks, x);
-        if most <= steps {
-            most = steps;
-        }
-        x += 1;
-    }
-    most
-}
-
 // The greatest number of `s`, and 0 where it has none.
 fn greatest(s: &[u8]) -> usize
     ensures { λ r. ⌜ r ≡ greatestOf (now (s .entry)) ⌝ }
@@ -110,7 +75,7 @@ fn greatest(s: &[u8]) -> usize
     most
 }
 
-fn no_points() -> [u8; 201]
+fn no_cycles() -> [u8; 201]
     ensures { λ r. ⌜ r ≡ replicate 201 0 ⌝ }
 {
     [0u8; 201]
@@ -122,14 +87,14 @@ fn no_rows() -> [u8; 19]
     [0u8; 19]
 }
 
-// The rows of the table `f` with its marks; `tallies` has a place for the count of each length.
-fn rows_of(f: &[u8], marks: &[u8], tallies: &mut [u8]) -> Rows
-    requires { ⌜ Blank (now f) (now marks) (now tallies) ⌝ }
+// The rows of the table `f` with the leaders of its cycles; `tallies` has a place for the count of each length.
+fn rows_of(f: &[u8], leads: &[u8], tallies: &mut [u8]) -> Rows
+    requires { ⌜ Blank (now f) (now leads) (now tallies) ⌝ }
     ensures { λ r. ⌜ RowsOf (now (f .entry)) r ⌝ }
 {
     let mut lengths = no_rows();
     let mut counts = no_rows();
-    count_cycles(f, marks, tallies);
+    count_cycles(f, leads, tallies);
     let rows = list_rows(tallies, &mut lengths[..19], &mut counts[..19]);
     Rows {
         lengths,
@@ -138,41 +103,37 @@ fn rows_of(f: &[u8], marks: &[u8], tallies: &mut [u8]) -> Rows
     }
 }
 
+// The rows of the table `f` with its points on cycles marked.
+fn marked_rows(f: &[u8], marks: &[u8]) -> Rows
+    requires { ⌜ Table (now f) × Marked (now f) (now marks) ⌝ }
+    ensures { λ r. ⌜ RowsOf (now (f .entry)) r ⌝ }
+{
+    let n = f.len();
+    let mut leads = points_room();
+    let mut tallies = no_cycles();
+    links::lead_cycles(f, marks, &mut leads[..n]);
+    rows_of(f, &leads[..n], &mut tallies[..n + 1])
+}
+
+// The rows of the table `f`.
+pub fn cycle_rows(f: &[u8]) -> Rows
+    requires { ⌜ Table (now f) ⌝ }
+    ensures { λ r. ⌜ RowsOf (now (f .entry)) r ⌝ }
+{
+    let n = f.len();
+    let mut marks = points_room();
+    cycles::mark_cycles(f, &mut marks[..n]);
+    marked_rows(f, &marks[..n])
+}
+
 // The longest cycle: the greatest length that has a row.
-fn longest(rows: Rows) -> usize
+pub fn longest(rows: Rows) -> usize
     requires { ⌜ rows .rows ≤ 19 ⌝ }
     ensures { λ r. ⌜ ((f : List ℕ) → RowsOf f rows → r ≡ longestOf (length f) (image f)) ⌝ }
 {
     let lengths = rows.lengths;
     let n = rows.rows;
     greatest(&lengths[..n])
-}
-
-// The census of the table `f` with its marks.
-fn marked_census(f: &[u8], marks: &[u8], tallies: &mut [u8]) -> Measured
-    requires { ⌜ Blank (now f) (now marks) (now tallies) ⌝ }
-    ensures { λ r. ⌜ CensusOf (now (f .entry)) r ⌝ }
-{
-    let rows = rows_of(f, marks, tallies);
-    let height = height(f, marks);
-    let longest = longest(rows);
-    Measured {
-        rows,
-        height,
-        longest,
-    }
-}
-
-// The census of the table `f`, which has at most 200 points.
-pub fn census(f: &[u8]) -> Measured
-    requires { ⌜ (isTable (now f) ≡ true) × (length (now f) ≤ 200) ⌝ }
-    ensures { λ r. ⌜ CensusOf (now (f .entry)) r ⌝ }
-{
-    let n = f.len();
-    let mut marks = no_points();
-    let mut tallies = no_points();
-    cycles::mark_cycles(f, &mut marks[..n]);
-    marked_census(f, &marks[..n], &mut tallies[..n + 1])
 }
 
 // Row `i` of a census.

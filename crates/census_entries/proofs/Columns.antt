@@ -12,9 +12,8 @@ use Rattle.patterns.specs.Entry.{CensusReplied}
 use Rattle.census.specs.declared.Rows.{Rows}
 use Rattle.patterns.specs.Census.{rowsOf}
 use Rattle.census.proofs.Filling.{rows-append}
-use Rattle.census_entries.specs.declared.Decision.{Decision}
-use Rattle.patterns.specs.Replies.{censusAnswer}
-use Rattle.census_entries.specs.Decisions.{rowsFilled, Decided}
+use Rattle.patterns.specs.Replies.{CensusAnswer}
+use Rattle.census_entries.specs.Decisions.{firstRows, RowsDecided}
 use Rattle.patterns.specs.Entry.{RowsReplied}
 use Rattle.census_entries.specs.Columns.{ColumnsPut}
 
@@ -96,38 +95,38 @@ kept-behind n k a d e h =
     ∙ ap (λ j. drop j d) (sym s)
 
 -- what was decided for as many places as both slices have is put into them
-module _ {f : List ℕ} {d : Decision} (lengths counts : List ℕ) (w : Decided f (min (length lengths) (length counts)) d) where
-  pub columns-fit : (d .filled ≤ 19) × (d .filled ≤ length lengths) × (d .filled ≤ length counts)
+module _ {f : List ℕ} {rows : Rows} {m : ℕ} {answer : CensusAnswer} (lengths counts : List ℕ)
+    (w : RowsDecided f (min (length lengths) (length counts)) rows m answer) where
+  pub columns-fit : (m ≤ 19) × (m ≤ length lengths) × (m ≤ length counts)
   columns-fit =
       let l = min-le-left (length lengths) (length counts) in
       let k = min-le-right (length lengths) (length counts) in
       (w .few, omega (arith, w .fits), omega (arith, w .fits))
 
-  module _ (lengths-all : length (d .rows .lengths) ≡ 19) (counts-all : length (d .rows .counts) ≡ 19) where
+  module _ (lengths-all : length (rows .lengths) ≡ 19) (counts-all : length (rows .counts) ≡ 19) where
     abbrev a : List ℕ
-    a = take (d .filled) (d .rows .lengths)
+    a = take m (rows .lengths)
 
     abbrev b : List ℕ
-    b = take (d .filled) (d .rows .counts)
+    b = take m (rows .counts)
 
-    front : (length a ≡ d .filled) × (length b ≡ d .filled)
-    front = (length-take-le (d .filled) (d .rows .lengths) (omega (arith, w .few)), length-take-le (d .filled) (d .rows .counts) (omega (arith, w .few)))
+    front : (length a ≡ m) × (length b ≡ m)
+    front = (length-take-le m (rows .lengths) (omega (arith, w .few)), length-take-le m (rows .counts) (omega (arith, w .few)))
 
-    rows-put : rowsOf (a ++ drop (d .filled) lengths) (b ++ drop (d .filled) counts) ≡ rowsFilled d ++ drop (d .filled) (rowsOf lengths counts)
+    rows-put : rowsOf (a ++ drop m lengths) (b ++ drop m counts) ≡ firstRows rows m ++ drop m (rowsOf lengths counts)
     rows-put =
-        rows-append a b (drop (d .filled) lengths) (drop (d .filled) counts) (front .0 ∙ sym (front .1))
-        ∙ ap (λ (l : List Row). rowsFilled d ++ l) (rows-drop (d .filled) lengths counts)
+        rows-append a b (drop m lengths) (drop m counts) (front .0 ∙ sym (front .1))
+        ∙ ap (λ (l : List Row). firstRows rows m ++ l) (rows-drop m lengths counts)
 
-    pub columns-replied : {lengths′ counts′ : List ℕ} → ColumnsPut (d .rows) (d .filled) lengths counts lengths′ counts′
-        → RowsReplied f lengths counts (censusAnswer (d .reply)) lengths′ counts′
+    pub columns-replied : {lengths′ counts′ : List ℕ} → ColumnsPut rows m lengths counts lengths′ counts′ → RowsReplied f lengths counts answer lengths′ counts′
     columns-replied p =
         let n = length (rowsOf lengths counts) in
-        let fits : d .filled ≤ n = omega (arith, w .fits, rows-places lengths counts) in
+        let fits : m ≤ n = omega (arith, w .fits, rows-places lengths counts) in
         record {
           rows =
-              subst (λ (after : List Row). CensusReplied f (rowsOf lengths counts) (censusAnswer (d .reply)) after)
+              subst (λ (after : List Row). CensusReplied f (rowsOf lengths counts) answer after)
               (sym (ap₂ rowsOf (p .lengths-are) (p .counts-are) ∙ rows-put))
               (w .replied (rowsOf lengths counts) (rows-places lengths counts));
-          lengths-kept = ap (drop n) (p .lengths-are) ∙ kept-behind (d .filled) n a lengths (front .0) fits;
-          counts-kept = ap (drop n) (p .counts-are) ∙ kept-behind (d .filled) n b counts (front .1) fits;
+          lengths-kept = ap (drop n) (p .lengths-are) ∙ kept-behind m n a lengths (front .0) fits;
+          counts-kept = ap (drop n) (p .counts-are) ∙ kept-behind m n b counts (front .1) fits;
         }

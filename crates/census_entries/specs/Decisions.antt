@@ -1,34 +1,57 @@
--- What the census entry decides before it writes.
+-- What the census entries decide before they write.
 use mathlib.Core.Path.{_≡_}
 use mathlib.Core.List.{List, _++_}
 use Prim.Native.Nat.{ℕ, _≤_}
 use lib.ListN.{length, take, drop}
 use Rattle.patterns.specs.declared.Refusal.{Refusal}
-use Rattle.patterns.specs.Census.{Row}
+use Rattle.patterns.specs.Table.{image}
+use Rattle.patterns.specs.Census.{Row, rowsOf, height, longestCycle}
 use Rattle.patterns.specs.Reading.{done}
-use Rattle.patterns.specs.Entry.{checkedTable, CensusReplied}
-use Rattle.census.specs.declared.Measured.{Measured}
-use Rattle.patterns.specs.Census.{rowsOf}
-use Rattle.census.specs.Rows.{CensusOf}
+use Rattle.patterns.specs.declared.reply.Reply.the-variants.{Length, Refused}
+use Rattle.patterns.specs.Replies.{CensusAnswer, census-is, answerOf, censusAnswer}
+use Rattle.patterns.specs.Entry.{checkedTable, CensusReplied, entriesOf}
+use Rattle.tables.specs.Tables.{Table}
+use Rattle.census.specs.declared.Rows.{Rows}
+use Rattle.census.specs.Rows.{RowsOf}
+use Rattle.census_entries.specs.declared.Choice.{Choice}
 use Rattle.census_entries.specs.declared.Decision.{Decision}
-use Rattle.patterns.specs.declared.reply.Census.the-variants.{Refused}
-use Rattle.patterns.specs.Replies.{censusAnswer}
+
+-- the first n rows
+abbrev pub firstRows : Rows → ℕ → List Row
+firstRows rows n = rowsOf (take n (rows .lengths)) (take n (rows .counts))
+
+-- whoever writes the first n rows into the first places of any list of that many places, and answers a, has kept the promise of the census entry
+pub record RowsDecided (f : List ℕ) (places : ℕ) (rows : Rows) (n : ℕ) (a : CensusAnswer) : Type 0 where
+  pub few : n ≤ 19
+  pub fits : n ≤ places
+  pub replied : (before : List Row) → length before ≡ places → CensusReplied f before a (firstRows rows n ++ drop n before)
 
 -- the rows that d writes
 abbrev pub rowsFilled : Decision → List Row
-rowsFilled d = rowsOf (take (d .filled) (d .rows .lengths)) (take (d .filled) (d .rows .counts))
+rowsFilled d = firstRows (d .rows) (d .filled)
+
+-- d keeps the promise
+abbrev pub Decided : List ℕ → ℕ → Decision → Type 0
+Decided f places d = RowsDecided f places (d .rows) (d .filled) (censusAnswer (d .reply))
 
 -- nothing is written, and the cause is answered
-pub record Refuses (c : Refusal) (d : Decision) : Type 0 where
-  pub nothing : d .filled ≡ 0
-  pub reply : d .reply ≡ Refused c
+pub record Refuses (cause : Refusal) (c : Choice) : Type 0 where
+  pub nothing : c .filled ≡ 0
+  pub reply : c .reply ≡ Refused cause
 
--- whoever writes these rows into the first places of any list of that many places has kept the promise of the census entry
-pub record Decided (f : List ℕ) (places : ℕ) (d : Decision) : Type 0 where
-  pub few : d .filled ≤ 19
-  pub fits : d .filled ≤ places
-  pub replied : (before : List Row) → length before ≡ places → CensusReplied f before (censusAnswer (d .reply)) (rowsFilled d ++ drop (d .filled) before)
+-- n rows are those of the table f, and a is the whole answer
+pub record Whole (f : List ℕ) (rows : Rows) (n : ℕ) (a : CensusAnswer) : Type 0 where
+  pub isTable : Table f
+  pub rows-are : RowsOf f rows
+  pub answer : a ≡ census-is n (height (length f) (image f)) (longestCycle (length f) (image f))
 
--- the same, for the rows of any table with this census
-abbrev pub RowsDecided : Measured → ℕ → Decision → Type 0
-RowsDecided taken places d = (f : List ℕ) → checkedTable f ≡ done f → CensusOf f taken → Decided f places d
+-- c keeps the promise with an answer of which it tells the number of rows
+pub record Chosen (f : List ℕ) (places : ℕ) (c : Choice) : Type 0 where
+  pub answer : CensusAnswer
+  pub decided : RowsDecided f places (c .rows) (c .filled) answer
+  pub reply : answerOf (c .reply) ≡ entriesOf answer
+  pub whole : (n : ℕ) → c .reply ≡ Length n → Whole f (c .rows) n answer
+
+-- the same, for any table with these rows
+abbrev pub RowsChosen : Rows → ℕ → Choice → Type 0
+RowsChosen rows places c = (f : List ℕ) → checkedTable f ≡ done f → RowsOf f rows → Chosen f places c

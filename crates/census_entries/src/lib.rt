@@ -1,8 +1,9 @@
-// The census of a map, in a lent list of rows or in two lent columns.
-use census::Measured;
+// The census of a map, in a lent list of rows or in two lent columns, and its parts.
 use census::Rows;
-use census::census as census_of;
+use census::cycle_rows;
 use census::fill;
+use census::longest;
+use distances::height as height_of;
 use patterns::Census;
 use patterns::Refusal;
 use patterns::Reply;
@@ -13,12 +14,17 @@ ghost use mathlib.Core.Path.{_≡_};
 ghost use mathlib.Core.List.{map};
 ghost use Prim.Native.Nat.{_≤_, min};
 ghost use lib.ListN.{length};
-ghost use Rattle.patterns.specs.Entry.{CensusReplied};
-ghost use Rattle.patterns.specs.Replies.{censusAnswer};
-ghost use Rattle.patterns.specs.Replies.{rowOf};
+ghost use Rattle.patterns.specs.Entry.{CensusReplied, RowsReplied, ColumnsReplied, heightOf, longestOf};
+ghost use Rattle.patterns.specs.Replies.{answerOf, censusAnswer, rowOf};
 ghost use Rattle.census_entries.specs.Columns.{ColumnsPut};
-ghost use Rattle.patterns.specs.Entry.{RowsReplied};
-ghost use Rattle.census_entries.specs.Decisions.{Refuses, RowsDecided, Decided};
+ghost use Rattle.census_entries.specs.Decisions.{Refuses, RowsChosen, Chosen, Decided};
+
+// What is written of the rows: the first `filled`. The reply is their number, or why there are none.
+struct Choice {
+    rows: Rows,
+    filled: usize,
+    reply: Reply,
+}
 
 // What a census entry does: the first `filled` of the rows are written, and `reply` is answered.
 struct Decision {
@@ -28,35 +34,43 @@ struct Decision {
 }
 
 // A refusal: nothing is written.
-fn refuse(cause: Refusal) -> Decision
-    ensures { λ d. ⌜ Refuses cause d ⌝ }
+fn refuse(cause: Refusal) -> Choice
+    ensures { λ c. ⌜ Refuses cause c ⌝ }
 {
     let rows = Rows {
         lengths: [0u8; 19],
         counts: [0u8; 19],
         rows: 0,
     };
-    Decision {
+    Choice {
         rows,
         filled: 0,
-        reply: Census::Refused(cause),
+        reply: Reply::Refused(cause),
     }
 }
 
 // All rows where they have room in `places` places, and a refusal where they have not.
-fn decide_rows(taken: Measured, places: usize) -> Decision
-    ensures { λ d. ⌜ RowsDecided taken places d ⌝ }
+fn choose_rows(rows: Rows, places: usize) -> Choice
+    ensures { λ c. ⌜ RowsChosen rows places c ⌝ }
 {
-    let rows = taken.rows;
     let n = rows.rows;
     if places < n {
         return refuse(Refusal::Room);
     }
-    let reply = Census::Counted(n, taken.height, taken.longest);
-    Decision {
+    Choice {
         rows,
         filled: n,
-        reply,
+        reply: Reply::Length(n),
+    }
+}
+
+// What is written of the rows of the map `table` into a list of `places` places.
+fn choose(table: &[u8], places: usize) -> Choice
+    ensures { λ c. ⌜ Chosen (now (table .entry)) places c ⌝ }
+{
+    match check_table(table) {
+        Reply::Refused(cause) => refuse(cause),
+        Reply::Length(_) => choose_rows(cycle_rows(table), places),
     }
 }
 
@@ -64,9 +78,29 @@ fn decide_rows(taken: Measured, places: usize) -> Decision
 fn decide(table: &[u8], places: usize) -> Decision
     ensures { λ d. ⌜ Decided (now (table .entry)) places d ⌝ }
 {
-    match check_table(table) {
-        Reply::Refused(cause) => refuse(cause),
-        Reply::Length(_) => decide_rows(census_of(table), places),
+    let choice = choose(table, places);
+    let rows = choice.rows;
+    let filled = choice.filled;
+    let told = choice.reply;
+    match told {
+        Reply::Refused(cause) => {
+            let reply = Census::Refused(cause);
+            Decision {
+                rows,
+                filled,
+                reply,
+            }
+        }
+        Reply::Length(n) => {
+            let height = height_of(table);
+            let longest = longest(rows);
+            let reply = Census::Counted(n, height, longest);
+            Decision {
+                rows,
+                filled,
+                reply,
+            }
+        }
     }
 }
 
@@ -110,4 +144,34 @@ pub fn census_columns(table: &[u8], lengths: &mut [u8], counts: &mut [u8]) -> Ce
     let decision = decide(table, places);
     put_columns(decision.rows, decision.filled, lengths, counts);
     decision.reply
+}
+
+// The rows alone in two columns: the reply is their number.
+pub fn cycle_columns(table: &[u8], lengths: &mut [u8], counts: &mut [u8]) -> Reply
+    ensures { λ r. ⌜ ColumnsReplied (now (table .entry)) (now (lengths .entry)) (now (counts .entry)) (answerOf r) (now (lengths .exit)) (now (counts .exit)) ⌝ }
+{
+    let places = lesser(lengths.len(), counts.len());
+    let choice = choose(table, places);
+    put_columns(choice.rows, choice.filled, lengths, counts);
+    choice.reply
+}
+
+// The greatest distance of a point of the map `table` from its cycle.
+pub fn height(table: &[u8]) -> Reply
+    ensures { λ r. ⌜ answerOf r ≡ heightOf (now (table .entry)) ⌝ }
+{
+    match check_table(table) {
+        Reply::Refused(cause) => Reply::Refused(cause),
+        Reply::Length(_) => Reply::Length(height_of(table)),
+    }
+}
+
+// The longest cycle of the map `table`.
+pub fn longest_cycle(table: &[u8]) -> Reply
+    ensures { λ r. ⌜ answerOf r ≡ longestOf (now (table .entry)) ⌝ }
+{
+    match check_table(table) {
+        Reply::Refused(cause) => Reply::Refused(cause),
+        Reply::Length(_) => Reply::Length(longest(cycle_rows(table))),
+    }
 }

@@ -1,5 +1,5 @@
 -- Marking the points on cycles: a walk of at least as many steps as there are points ends on a cycle, and every point on a cycle is the end of such a walk. Such
--- steps are found by squaring the table.
+-- steps are found by reading the table at its own images.
 use mathlib.Core.Path.{_≡_, refl, ap, sym, subst, _∙_}
 use mathlib.Core.Logic.{_⊎_, inl, inr}
 use mathlib.Core.Bool.{true}
@@ -20,66 +20,66 @@ use Rattle.cycles.specs.Marks.{Images, Far, Marked}
 use Rattle.map_theory.proofs.Orbits.{iterate-add, iterate-swap, iterate-inside, onCycle-moves, onCycle-back, every-point-reaches-cycle}
 use Rattle.map_theory.proofs.Isomorphisms.{table-below}
 
--- Two steps: a table read at its own images.
+-- Four steps: a table read at its own images.
 
--- the first i places of out hold two steps
-pub record Squaring (s out : List ℕ) (i : ℕ) : Type 0 where
+-- the first i places of out hold four steps
+pub record Stepping (s out : List ℕ) (i : ℕ) : Type 0 where
   pub room : length out ≡ length s
   pub within : i ≤ length s
-  pub done : take i out ≡ map (image s) (take i s)
+  pub done : take i out ≡ map (iterate (image s) 3) (take i s)
 
-pub squaring-start : {s out : List ℕ} → Images s out → Squaring s out 0
-squaring-start a = record { room = a .room; within = omega arith; done = refl }
+pub stepping-start : {s out : List ℕ} → Images s out → Stepping s out 0
+stepping-start a = record { room = a .room; within = omega arith; done = refl }
 
-pub squaring-next : {s out : List ℕ} {i : ℕ} → Squaring s out i → i < length s → Squaring s (set out i (image s (image s i))) (i + 1)
-squaring-next {s} {out} {i} q h =
+pub stepping-next : {s out : List ℕ} {i : ℕ} → Stepping s out i → i < length s → Stepping s (set out i (iterate (image s) 3 (image s i))) (i + 1)
+stepping-next {s} {out} {i} q h =
     record {
       room = simp length-set (q .room);
       within = omega arith;
-      done = rw (add-one i, take-suc-set out i (image s (image s i)) (omega (arith, q .room)), take-suc s i 0 h, q .done)
-          (sym (map-append (image s) (take i s) (image s i ∷ [])));
+      done = rw (add-one i, take-suc-set out i (iterate (image s) 3 (image s i)) (omega (arith, q .room)), take-suc s i 0 h, q .done)
+          (sym (map-append (iterate (image s) 3) (take i s) (image s i ∷ [])));
     }
 
-pub squaring-end : {s out : List ℕ} {i : ℕ} → Squaring s out i → length s ≤ i → out ≡ map (image s) s
-squaring-end {s} {out} {i} q h =
-    sym (take-all i out (omega (arith, q .room))) ∙ q .done ∙ ap (map (image s)) (take-all i s h)
+pub stepping-end : {s out : List ℕ} {i : ℕ} → Stepping s out i → length s ≤ i → out ≡ map (iterate (image s) 3) s
+stepping-end {s} {out} {i} q h =
+    sym (take-all i out (omega (arith, q .room))) ∙ q .done ∙ ap (map (iterate (image s) 3)) (take-all i s h)
 
 -- Many steps.
 
 -- far is the table of k steps
 pub record Steps (f far : List ℕ) (k : ℕ) : Type 0 where
-  pub some-steps : 0 < k
-  pub few : k ≤ 400
   pub places : length far ≡ length f
   pub images : (x : ℕ) → x < length f → getD far x 0 ≡ iterate (image f) k x
 
-pub steps-start : (f far : List ℕ) → far ≡ f → Steps f far 1
-steps-start f far e =
-    record { some-steps = omega arith; few = omega arith; places = ap length e; images = λ x h. ap (λ l. getD l x 0) e }
+pub steps-one : (f : List ℕ) → Steps f f 1
+steps-one f = record { places = refl; images = λ x h. refl }
 
 module _ (f : List ℕ) (table : isTable f ≡ true) where
   below : (x : ℕ) → x < length f → image f x < length f
   below = table-below (length f) f refl table
 
-  pub steps-inside : {far : List ℕ} {k : ℕ} → Steps f far k → (x : ℕ) → x < length far → image far x < length far
-  steps-inside {far} {k} s x h =
-      rw (s .places) (subst (λ y. y < length f) (sym (s .images x (omega (arith, s .places)))) (iterate-inside (length f) (image f) below k x (omega (arith, s .places))))
+  module _ {far : List ℕ} {k : ℕ} (s : Steps f far k) where
+    inside : (x : ℕ) → x < length f → image far x < length f
+    inside x h = subst (λ y. y < length f) (sym (s .images x h)) (iterate-inside (length f) (image f) below k x h)
 
-  -- squaring doubles the steps
-  pub steps-double : {far : List ℕ} {k : ℕ} (after : List ℕ) → Steps f far k → k < length f → length f ≤ 200 → after ≡ map (image far) far → Steps f after (k + k)
-  steps-double {far} {k} after s h small e =
-      record {
-        some-steps = omega (arith, s .some-steps);
-        few = omega arith;
-        places = ap length e ∙ length-map far (image far) ∙ s .places;
-        images = λ x b.
-            let inside : x < length far = omega (arith, s .places) in
-            ap (λ l. getD l x 0) e
-            ∙ getD-map (image far) far x 0 0 inside
-            ∙ s .images (image far x) (omega (arith, s .places, steps-inside s x inside))
-            ∙ ap (iterate (image f) k) (s .images x b)
-            ∙ sym (iterate-add (image f) k k x);
-      }
+    -- room for four times as many
+    pub steps-room : {out : List ℕ} → length out ≡ length f → Images far out
+    steps-room l = record { inside = λ x h. rw (s .places) (inside x (omega (arith, s .places))); room = l ∙ sym (s .places) }
+
+    twice : (x : ℕ) → x < length f → image far (image far x) ≡ iterate (image f) (k + k) x
+    twice x h = s .images (image far x) (inside x h) ∙ ap (iterate (image f) k) (s .images x h) ∙ sym (iterate-add (image f) k k x)
+
+    pub steps-four : {after : List ℕ} → after ≡ map (iterate (image far) 3) far → Steps f after (k + k + (k + k))
+    steps-four e =
+        record {
+          places = ap length e ∙ length-map far (iterate (image far) 3) ∙ s .places;
+          images = λ x b.
+              ap (λ l. getD l x 0) e
+              ∙ getD-map (iterate (image far) 3) far x 0 0 (omega (arith, s .places))
+              ∙ twice (image far (image far x)) (inside (image far x) (inside x b))
+              ∙ ap (iterate (image f) (k + k)) (twice x b)
+              ∙ sym (iterate-add (image f) (k + k) (k + k) x);
+        }
 
   pub steps-end : {far : List ℕ} {k : ℕ} → Steps f far k → length f ≤ k → Far f far
   steps-end {far} {k} s h = record { steps = k; enough = h; places = s .places; images = s .images }

@@ -1,10 +1,11 @@
 -- A table and its marks: images are points, and what a mark says of its point.
 use mathlib.Core.Path.{_≡_, refl, sym, _∙_}
 use mathlib.Core.Bool.{true, false}
-use mathlib.Core.List.{List}
-use Prim.Native.Nat.{ℕ, _<_}
+use mathlib.Core.List.{List, _++_}
+use Prim.Native.Nat.{ℕ, _≤_, _<_}
 use native.Mathlib.Omega.{arith}
-use lib.ListN.{length, getD}
+use lib.ListN.{length, take, getD, length-append}
+use lib.Seq.{take-at}
 use Rattle.lists.proofs.Tests.{by-test}
 use Rattle.patterns.specs.Table.{image, isTable, onCycle}
 use Rattle.cycles.specs.Marks.{Marked}
@@ -28,3 +29,10 @@ module _ {f marks : List ℕ} where
       by-test (onCycle (length f) (image f) x)
       (λ t. t)
       (λ t. absurd (e (m .marks-are x h ∙ rw t)))
+
+  -- marks in the first places of an array
+  pub marks-within : Marked f marks → (d : List ℕ) → length f ≤ length (marks ++ d)
+  marks-within m d = rw length-append (omega (arith, m .same))
+
+  pub marks-back : Marked f marks → (d : List ℕ) → Marked f (take (length f) (marks ++ d))
+  marks-back m d = rw (take-at marks d (length f) (m .same)) m

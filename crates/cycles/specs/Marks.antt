@@ -5,11 +5,7 @@ use mathlib.Core.List.{List}
 use Prim.Native.Nat.{ℕ, _<_, _≤_}
 use lib.ListN.{length, getD}
 use Rattle.map_theory.specs.Iteration.{iterate}
-use Rattle.patterns.specs.Table.{image, isTable, onCycle, cycleFrom, leadsCycle}
-
--- the length of the cycle whose least point is x, and 0 where there is none
-unfoldable pub lengthLed : ℕ → (ℕ → ℕ) → ℕ → ℕ
-lengthLed n f x = cond (leadsCycle n f x) (length (cycleFrom n f x)) 0
+use Rattle.patterns.specs.Table.{image, isTable, onCycle}
 
 -- a table of at most 200 points, and room for one mark for each point
 pub record MarksAsked (f marks : List ℕ) : Type 0 where
@@ -34,8 +30,8 @@ pub record Marked (f marks : List ℕ) : Type 0 where
   pub same : length marks ≡ length f
   pub marks-are : (x : ℕ) → x < length f → getD marks x 0 ≡ cond (onCycle (length f) (image f) x) 1 0
 
--- x is a point of a table whose points on cycles are marked
-pub record MarkedPoint (f marks : List ℕ) (x : ℕ) : Type 0 where
+-- x is a point of a table, and on a cycle
+pub record CyclePoint (f : List ℕ) (x : ℕ) : Type 0 where
   pub table : isTable f ≡ true
-  pub marked : Marked f marks
   pub here : x < length f
+  pub on-cycle : onCycle (length f) (image f) x ≡ true

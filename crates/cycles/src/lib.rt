@@ -1,5 +1,4 @@
 // Tables: which points are on cycles, and how long the cycles are.
-use bytes::copy;
 use lists::set_all;
 use patterns::points_room;
 ghost use denote.Ref.{now};
@@ -8,34 +7,34 @@ ghost use mathlib.Core.Bool.{true};
 ghost use mathlib.Core.List.{List, map};
 ghost use Prim.Native.Nat.{ℕ, _+_, _<_};
 ghost use lib.ListN.{length};
-ghost use Rattle.patterns.specs.Table.{image, isTable};
-ghost use Rattle.cycles.specs.Marks.{lengthLed, MarksAsked, Images, Far, Marked, MarkedPoint};
+ghost use Rattle.patterns.specs.Table.{image, isTable, cycleFrom};
+ghost use Rattle.map_theory.specs.Iteration.{iterate};
+ghost use Rattle.cycles.specs.Marks.{MarksAsked, Images, Far, Marked, CyclePoint};
 
-// `out` is the table of two steps of the table `s`.
-fn square(s: &[u8], out: &mut [u8])
+// `out` is the table of four steps of the table `s`.
+fn four_steps(s: &[u8], out: &mut [u8])
     requires { ⌜ Images (now s) (now out) ⌝ }
-    ensures { λ r. ⌜ now (out .exit) ≡ map (image (now (s .entry))) (now (s .entry)) ⌝ }
+    ensures { λ r. ⌜ now (out .exit) ≡ map (iterate (image (now (s .entry))) 3) (now (s .entry)) ⌝ }
 {
     let mut x = 0;
     while x < s.len() {
         let y = s[x] as usize;
-        out[x] = s[y];
+        let z = s[y] as usize;
+        let w = s[z] as usize;
+        out[x] = s[w];
         x += 1;
     }
 }
 
-// `far` is the table of at least as many steps as there are points: squaring doubles the steps.
-fn far_points(f: &[u8], far: &mut [u8], work: &mut [u8])
-    requires { ⌜ MarksAsked (now f) (now far) × (length (now work) ≡ length (now f)) ⌝ }
+// `far` is the table of 256 steps, more than there are points.
+fn far_points(f: &[u8], work: &mut [u8], far: &mut [u8])
+    requires { ⌜ MarksAsked (now f) (now work) × (length (now far) ≡ length (now f)) ⌝ }
     ensures { λ r. ⌜ Far (now (f .entry)) (now (far .exit)) ⌝ }
 {
-    copy(f, far);
-    let mut steps = 1;
-    while steps < f.len() {
-        square(far, work);
-        copy(work, far);
-        steps += steps;
-    }
+    four_steps(f, work);
+    four_steps(work, far);
+    four_steps(far, work);
+    four_steps(work, far);
 }
 
 // Marks the images of all points.
@@ -54,10 +53,10 @@ fn mark_images(far: &[u8], marks: &mut [u8])
 
 // Marks the points on cycles: those that are reached in many steps. The table of these steps stands in `far`.
 fn mark_reached(f: &[u8], far: &mut [u8], marks: &mut [u8])
-    requires { ⌜ MarksAsked (now f) (now far) × (length (now marks) ≡ length (now f)) ⌝ }
+    requires { ⌜ MarksAsked (now f) (now marks) × (length (now far) ≡ length (now f)) ⌝ }
     ensures { λ r. ⌜ Marked (now (f .entry)) (now (marks .exit)) ⌝ }
 {
-    far_points(f, far, marks);
+    far_points(f, marks, far);
     mark_images(far, marks);
 }
 
@@ -70,20 +69,14 @@ pub fn mark_cycles(f: &[u8], marks: &mut [u8])
     mark_reached(f, &mut far[..f.len()], marks);
 }
 
-// The length of the cycle whose least point is `x`, and 0 where there is none.
-pub fn length_led(f: &[u8], marks: &[u8], x: usize) -> usize
-    requires { ⌜ MarkedPoint (now f) (now marks) x ⌝ }
-    ensures { λ r. ⌜ r ≡ lengthLed (length (now (f .entry))) (image (now (f .entry))) x ⌝ }
+// The length of the cycle of `x`, which is on one.
+pub fn cycle_length(f: &[u8], x: usize) -> usize
+    requires { ⌜ CyclePoint (now f) x ⌝ }
+    ensures { λ r. ⌜ r ≡ length (cycleFrom (length (now (f .entry))) (image (now (f .entry))) x) ⌝ }
 {
-    if marks[x] == 0 {
-        return 0;
-    }
     let mut length = 1;
     let mut y = f[x] as usize;
     while y != x {
-        if y < x {
-            return 0;
-        }
         y = f[y] as usize;
         length += 1;
     }

@@ -15,7 +15,7 @@ use Rattle.patterns.specs.Entry.{Replied, acceptOf, firstOf, successorOf, codeO
 use Rattle.patterns.specs.Replies.{answerOf}
 use Rattle.patterns.specs.Replies.{successorAnswer, isomorphismAnswer, censusAnswer}
 use Rattle.patterns.specs.Replies.{rowOf}
-use Rattle.patterns.specs.Entry.{RowsReplied}
+use Rattle.patterns.specs.Entry.{RowsReplied, ColumnsReplied, heightOf, longestOf}
 use Rattle.code_entries.proofs.accept.Reads as accept
 use Rattle.code_entries.proofs.accept.Kinds as accept-kinds
 use Rattle.code_entries.proofs.first.Reads as first
@@ -31,6 +31,12 @@ use Rattle.isomorphism_entry.proofs.isomorphism.Kinds as isomorphism-kinds
 use Rattle.census_entries.proofs.census as census
 use Rattle.census_entries.proofs.census_columns.Reads as census-columns
 use Rattle.census_entries.proofs.census_columns.Kinds as census-columns-kinds
+use Rattle.census_entries.proofs.cycle_columns.Reads as cycle-columns
+use Rattle.census_entries.proofs.cycle_columns.Kinds as cycle-columns-kinds
+use Rattle.census_entries.proofs.height.Reads as height
+use Rattle.census_entries.proofs.height.Kinds as height-kinds
+use Rattle.census_entries.proofs.longest_cycle.Reads as longest-cycle
+use Rattle.census_entries.proofs.longest_cycle.Kinds as longest-cycle-kinds
 
 -- `accept`: the reply
 pub accept-promise : (κs : Lfts 1) (a : Dens κs accept-kinds.ps) (r : _) (s : _) → accept.Post κs a r s → answerOf r ≡ acceptOf (now (a .0))
@@ -74,3 +80,15 @@ module _ {M : Type 1} (𝓤 : URA M) (H : Heap 𝓤) (A : Atoms 𝓤) (mem : Mem
 pub census-columns-promise : (κs : Lfts 3) (a : Dens κs census-columns-kinds.ps) (r : _) (s : _) → census-columns.Post κs a r s
     → RowsReplied (now (a .0)) (now (a .1 .0)) (now (a .1 .1 .0)) (censusAnswer r) (now (s .1 .0)) (now (s .1 .1 .0))
 census-columns-promise κs a r s p = p
+
+-- `cycle_columns`: the rows alone
+pub cycle-columns-promise : (κs : Lfts 3) (a : Dens κs cycle-columns-kinds.ps) (r : _) (s : _) → cycle-columns.Post κs a r s
+    → ColumnsReplied (now (a .0)) (now (a .1 .0)) (now (a .1 .1 .0)) (answerOf r) (now (s .1 .0)) (now (s .1 .1 .0))
+cycle-columns-promise κs a r s p = p
+
+-- `height` and `longest_cycle`: the other two numbers alone
+pub height-promise : (κs : Lfts 1) (a : Dens κs height-kinds.ps) (r : _) (s : _) → height.Post κs a r s → answerOf r ≡ heightOf (now (a .0))
+height-promise κs a r s p = p
+
+pub longest-cycle-promise : (κs : Lfts 1) (a : Dens κs longest-cycle-kinds.ps) (r : _) (s : _) → longest-cycle.Post κs a r s → answerOf r ≡ longestOf (now (a .0))
+longest-cycle-promise κs a r s p = p

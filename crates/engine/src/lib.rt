@@ -2,6 +2,9 @@
 // buffer are those of the definitions [crates/patterns/specs/Entry.antt].
 pub use census_entries::census;
 pub use census_entries::census_columns;
+pub use census_entries::cycle_columns;
+pub use census_entries::height;
+pub use census_entries::longest_cycle;
 pub use code_entries::accept;
 pub use code_entries::first;
 pub use coding_entry::code_of_map;

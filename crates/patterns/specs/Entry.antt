@@ -129,6 +129,25 @@ pub record RowsReplied (f lengths counts : List ℕ) (answer : CensusAnswer) (le
   pub lengths-kept : drop (length (rowsOf lengths counts)) lengths′ ≡ drop (length (rowsOf lengths counts)) lengths
   pub counts-kept : drop (length (rowsOf lengths counts)) counts′ ≡ drop (length (rowsOf lengths counts)) counts
 
+-- of a census, the number of entries
+abbrev pub entriesOf : CensusAnswer → Answer
+entriesOf (census-is entries height longest) = length-is entries
+entriesOf (census-refused c) = refused c
+
+-- the entries alone, in two lent lists of numbers: the reply is their number
+pub record ColumnsReplied (f lengths counts : List ℕ) (answer : Answer) (lengths′ counts′ : List ℕ) : Type 0 where
+  pub census : CensusAnswer
+  pub reply : answer ≡ entriesOf census
+  pub replied : RowsReplied f lengths counts census lengths′ counts′
+
+-- of a census, the greatest distance of a point from its cycle alone, or the refusal of the table
+abbrev pub heightOf : List ℕ → Answer
+heightOf f = answer (checkedTable f) (λ f. length-is (height (length f) (image f)))
+
+-- of a census, the longest cycle alone, or the refusal of the table
+abbrev pub longestOf : List ℕ → Answer
+longestOf f = answer (checkedTable f) (λ f. length-is (longestCycle (length f) (image f)))
+
 -- where the bytes of the component at position i begin and end in the code of S
 abbrev pub componentIn : System → ℕ → Result (ℕ × ℕ)
 componentIn S i = cond (ltb i (length S)) (done (startOf S i, startOf S (i + 1))) (fault Position)

@@ -4,12 +4,8 @@ use mathlib.Core.Path.{_≡_}
 use mathlib.Core.List.{List}
 use Prim.Native.Nat.{ℕ}
 use lib.IntN.{ℤ, pos, negℤ}
-use lib.ListN.{length}
-use Rattle.patterns.specs.Table.{image}
-use Rattle.patterns.specs.Census.{height, longestCycle}
-use Rattle.patterns.specs.Replies.{Answer, length-is, last, lacking, refused, CensusAnswer, census-is, census-refused}
-use Rattle.patterns.specs.Entry.{Outcome, answer, answered, filled, checkedTable, componentOf, IsomorphismReplied}
-use Rattle.patterns.specs.Entry.{RowsReplied}
+use Rattle.patterns.specs.Replies.{Answer, length-is, last, lacking, refused, CensusAnswer}
+use Rattle.patterns.specs.Entry.{Outcome, answer, answered, filled, componentOf, IsomorphismReplied, RowsReplied, entriesOf}
 
 abbrev pub signedOf : Answer → ℤ
 signedOf (length-is n) = pos n
@@ -28,24 +24,11 @@ pub record IsomorphismReported (f g before : List ℕ) (r : ℤ) (after : List �
   pub number : r ≡ signedOf reply
   pub replied : IsomorphismReplied f g before reply after
 
--- of a census, the number of entries
-abbrev pub entriesOf : CensusAnswer → Answer
-entriesOf (census-is entries height longest) = length-is entries
-entriesOf (census-refused c) = refused c
-
 -- the census entry replied with the number r
 pub record CensusReported (f lengths counts : List ℕ) (r : ℤ) (lengths′ counts′ : List ℕ) : Type 0 where
   pub reply : CensusAnswer
   pub number : r ≡ signedOf (entriesOf reply)
   pub replied : RowsReplied f lengths counts reply lengths′ counts′
-
--- the greatest distance of a point from its cycle, or the refusal of the table
-abbrev pub heightOf : List ℕ → Answer
-heightOf f = answer (checkedTable f) (λ f. length-is (height (length f) (image f)))
-
--- the longest cycle, or the refusal of the table
-abbrev pub longestOf : List ℕ → Answer
-longestOf f = answer (checkedTable f) (λ f. length-is (longestCycle (length f) (image f)))
 
 -- where the bytes of the component at position i begin and end in the code b, or the refusal
 abbrev pub componentStart : List ℕ → ℕ → Answer
@@ -53,12 +36,3 @@ componentStart b i = answer (componentOf b i) (λ ends. length-is (ends .0))
 
 abbrev pub componentEnd : List ℕ → ℕ → Answer
 componentEnd b i = answer (componentOf b i) (λ ends. length-is (ends .1))
-
--- of a census, the other two numbers
-abbrev pub heightIn : CensusAnswer → Answer
-heightIn (census-is entries height longest) = length-is height
-heightIn (census-refused c) = refused c
-
-abbrev pub longestIn : CensusAnswer → Answer
-longestIn (census-is entries height longest) = length-is longest
-longestIn (census-refused c) = refused c

@@ -13,14 +13,14 @@ ghost use Rattle.patterns.specs.SignedReplies.{signedOf};
 ghost use Rattle.signed_replies.specs.Ends.{startIn, endIn};
 
 // The number of a refusal: minus the number of its cause.
-pub fn refusal(cause: Refusal) -> i64
+fn refusal(cause: Refusal) -> i64
     ensures { λ r. ⌜ r ≡ signedOf (refused (numberOf cause)) ⌝ }
 {
     -(patterns::number(cause) as i64)
 }
 
 // The number of what was counted.
-pub fn counted(n: usize) -> i64
+fn counted(n: usize) -> i64
     requires { ⌜ SFits w64 (pos n) ⌝ }
     ensures { λ r. ⌜ r ≡ pos n ⌝ }
 {

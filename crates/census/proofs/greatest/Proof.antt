@@ -6,7 +6,7 @@ use native.Mathlib.Omega.{arith}
 use borrow.Author.Needs.{needs}
 use lib.ListN.{length, take}
 use Rattle.patterns.specs.Census.{greatest}
-use Rattle.census.proofs.Maxima.{greatest-taken, greatest-passed, greatest-all}
+use Rattle.map_theory.proofs.Maxima.{greatest-taken, greatest-passed, greatest-all}
 use Rattle.census.proofs.greatest.Statement.{statement}
 use Rattle.census.proofs.greatest.Tie as tie
 

@@ -162,7 +162,7 @@ module _ {M : Type 1} (𝓤 : URA M) (H : Heap 𝓤) (A : Atoms 𝓤) (W : Given
         → ent 𝓤 (⋆ 𝓤 H A ((‵ (flft κ₀ q₀) ⊛ ‵ ftrue) ∷ (‵ (flft κ₁ q₁) ⊛ ‵ ftrue) ∷ ‵ Own ∷ ‵ (finally T.the-row γ zs) ∷ [])) (Post reply)
     exits zs same e =
         qed W ((‵ (flft κ₀ q₀) ⊛ ‵ ftrue) ∷ (‵ (flft κ₁ q₁) ⊛ ‵ ftrue) ∷ ‵ Own ∷ ‵ (finally T.the-row γ zs) ∷ []) ∵
-        suffices ! _ (ends-at 𝓤 H A census.ended stayed (census.clauses 𝓤 H A mem run) W bound reply (d .reply) (tt, (zs, tt)) (tt, (same, tt))) $ says ! (decision-written ys zs decided e) $
+        suffices ! _ (ends-at 𝓤 H A census.ended stayed (census.clauses 𝓤 H A mem run) W bound reply (d .reply) (tt, (zs, tt)) (tt, (same, tt))) $ says ! (decision-written d ys zs decided e) $
         split ! $ move ! (1 ∷ []) $ let-go ! $ join ! $ frame ! $
         nothing ! $ move ! (2 ∷ 0 ∷ []) $ fjoin ! $ move ! (1 ∷ 0 ∷ []) $ fjoin ! $ frame ! $
         owned ! R.the-row (Is R.the-row) (EL.makes R.the-type R′.the-plain 𝓤 H A) (d .reply) _ reply-is $ done !

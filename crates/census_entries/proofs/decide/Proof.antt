@@ -1,35 +1,37 @@
 use denote.Ref.{now}
-use Rattle.tables.proofs.Tables.{table-refused, table-checked}
-use Rattle.census_entries.proofs.Decisions.{decided-refused}
+use mathlib.Core.List.{List}
+use Prim.Native.Nat.{ℕ}
 use borrow.Author.Needs.{needs}
+use Rattle.census_entries.specs.Decisions.{Whole, Chosen}
+use Rattle.census_entries.proofs.Decisions.{decided-refused, decided-counted}
 use Rattle.census_entries.proofs.decide.Statement.{statement}
 use Rattle.census_entries.proofs.decide.Tie as tie
 
--- the place that the needs speak of, named once
-abbrev start : tie.After-check-table → tie.Start
-start c = c .before .before
+-- the places that the needs speak of, each named once
+abbrev table : tie.After-choose → List ℕ
+table c = now (c .before .before .args .table)
 
-census-requires : tie.Need-census-requires
-census-requires c κs =
-    let k = c .before .before in
-    let told = c .enum-told .given in
-    let checked = table-checked (now (start k .args .table)) (k .check-table .ensures) (told .0 .0) (told .1) in
-    (checked .2 .table, checked .2 .small)
+abbrev chosen : tie.After-known-told2 → tie.After-choose
+chosen c = c .before .before .before .before
+
+-- rows were counted
+whole : (c : tie.After-known-told2) → Whole (table (chosen c)) (chosen c .choose .result .rows) (c .before .told2 .given .0 .0) (chosen c .choose .ensures .answer)
+whole c = chosen c .choose .ensures .whole (c .before .told2 .given .0 .0) (c .before .told2 .given .1)
+
+height-requires : tie.Need-height-requires
+height-requires c κs = whole c .isTable
+
+longest-requires : tie.Need-longest-requires
+longest-requires c κs = whole (c .before) .rows-are .few
 
 returns : tie.Need-returns
-returns c =
-    let k = c .before .before .before .before in
-    let a = start k .args in
-    let given = c .before .before .cause .given in
-    decided-refused (now (a .table)) (given .0 .0) (table-refused (now (a .table)) (k .check-table .ensures) (given .0 .0) (given .1)) (a .places)
-    (c .refuse .ensures)
+returns c = decided-refused (c .before .before .before .before .choose .ensures) (c .before .told .given .1)
 
 returns-2 : tie.Need-returns-2
 returns-2 c =
-    let t = c .before .before in
-    let k = t .before .before in
-    let f = now (start k .args .table) in
-    c .decide-rows .ensures f (table-checked f (k .check-table .ensures) (t .enum-told .given .0 .0) (t .enum-told .given .1) .0) (c .before .census .ensures)
+    let h = c .before in
+    let k = h .before in
+    decided-counted (chosen k .choose .ensures) (k .before .told2 .given .1) (h .height .ensures) (c .longest .ensures (table (chosen k)) (whole k .rows-are))
 
 pub decide-spec : {M : Type 1} → statement M
 decide-spec =
@@ -37,9 +39,8 @@ decide-spec =
     (tie.spec
     (λ c κs. search needs)
     (λ c. search needs)
-    (λ c κs. search needs)
     (λ c. search needs)
-    census-requires
-    (λ c κs. search needs)
+    height-requires
+    longest-requires
     returns
     returns-2)

@@ -1,80 +1,73 @@
 use denote.Ref.{now}
-use mathlib.Core.Path.{_≡_, ap, sym, _∙_}
-use Prim.Native.Nat.{_-_}
+use mathlib.Core.List.{List}
+use Prim.Native.Nat.{ℕ}
 use native.Mathlib.Omega.{arith}
-use lib.ListN.{length, length-map}
-use Rattle.patterns.specs.Table.{image}
-use Rattle.cycles.proofs.far_points.Tie as tie
-use Rattle.lists.proofs.Filled.{copied}
-use Rattle.cycles.proofs.Marking.{Steps, steps-start, steps-inside, steps-double, steps-end}
+use borrow.Author.Needs.{needs}
+use Rattle.cycles.proofs.Marking.{Steps, steps-one, steps-room, steps-four, steps-end}
 use Rattle.cycles.proofs.far_points.Statement.{statement}
+use Rattle.cycles.proofs.far_points.Tie as tie
 
-abbrev Inv-loop : tie.InvT-loop
-Inv-loop f far₀ work₀ steps₀ far work steps = Steps f far steps × (length work ≡ length f)
+-- the place before each call, and what each call leaves: four times as many steps
+abbrev start : tie.After-four-steps → tie.Start
+start c = c .before .before .before .before .before
 
-abbrev μ-loop : tie.MeasureT-loop
-μ-loop f far₀ work₀ steps₀ far work steps = length f - steps
+abbrev first : tie.After-four-steps2 → tie.After-four-steps
+first c = c .before .before .before .before .before
 
-copy-requires : tie.Need-copy-requires Inv-loop μ-loop
-copy-requires c κs = omega (arith, c .before .before .before .before .pre .0 .room)
+abbrev second : tie.After-four-steps3 → tie.After-four-steps2
+second c = c .before .before .before .before .before
 
-loop-holds : tie.Need-loop-holds Inv-loop μ-loop
-loop-holds c =
-    let s = c .before .before .before .before .before .before .before in
-    (steps-start (now (s .args .f)) _ (c .before .before .copy .ensures .1 ∙ copied (now (s .args .f)) (now (s .args .far)) (s .pre .0 .room)), s .pre .1)
+abbrev third : tie.After-four-steps4 → tie.After-four-steps3
+third c = c .before .before .before .before .before
 
-square-requires : tie.Need-square-requires Inv-loop μ-loop
-square-requires c κs =
-    let l = c .before .before .before .loop in
-    let s = c .before .before .before .before .before .before .before .before .before .before .before in
-    record { inside = steps-inside (now (s .args .f)) (s .pre .0 .table) (l .inv .0); room = l .inv .1 ∙ sym (l .inv .0 .places) }
+abbrev table : tie.After-four-steps → List ℕ
+table c = now (start c .args .f)
 
-copy-requires-2 : tie.Need-copy-requires-2 Inv-loop μ-loop
-copy-requires-2 c κs =
-    let l = c .before .before .before .before .before .before .before .before .loop in
-    omega (arith, ap length (c .before .before .before .before .square .ensures) ∙ length-map (l .far) (image (l .far)))
+four : (c : tie.After-four-steps) → Steps (table c) (c .four-steps .last .1 .0) 4
+four c = steps-four (table c) (start c .pre .0 .table) (steps-one (table c)) (c .four-steps .ensures)
 
-add-steps : tie.Need-add-steps Inv-loop μ-loop
-add-steps c = omega (arith, c .before .before .before .before .before .before .before .before .before .before .before .loop .inv .0 .few)
+sixteen : (c : tie.After-four-steps2) → Steps (table (first c)) (c .four-steps2 .last .1 .0) 16
+sixteen c = let b = first c in steps-four (table b) (start b .pre .0 .table) (four b) (c .four-steps2 .ensures)
 
-loop-less : tie.Need-loop-less Inv-loop μ-loop
-loop-less c = omega (arith, c .before .before .before .before .before .before .before .before .before .before .before .loop .inv .0 .some-steps)
+more : (c : tie.After-four-steps3) → Steps (table (first (second c))) (c .four-steps3 .last .1 .0) 64
+more c = let b = first (second c) in steps-four (table b) (start b .pre .0 .table) (sixteen (second c)) (c .four-steps3 .ensures)
 
-loop-again : tie.Need-loop-again Inv-loop μ-loop
-loop-again c =
-    let l = c .before .before .before .before .before .before .before .before .before .before .before .loop in
-    let s = c .before .before .before .before .before .before .before .before .before .before .before .before .before .before .before .before .before .before .before in
-    let squared = c .before .before .before .before .before .before .before .square .ensures in
-    let as-long = ap length squared ∙ length-map (l .far) (image (l .far)) in (
-      steps-double (now (s .args .f)) (s .pre .0 .table) _ (l .inv .0) (omega arith) (s .pre .0 .small)
-          (c .before .before .copy2 .ensures .1 ∙ copied _ (l .far) (sym as-long) ∙ squared),
-      as-long ∙ l .inv .0 .places,
-    )
+four-steps-requires : tie.Need-four-steps-requires
+four-steps-requires c κs =
+    let s = c .before .before .before .before in
+    steps-room (now (s .args .f)) (s .pre .0 .table) (steps-one (now (s .args .f))) (s .pre .0 .room)
 
-same-length : tie.Need-same-length Inv-loop μ-loop
-same-length c = c .before .loop .inv .0 .places ∙ sym (c .before .before .before .before .before .before .before .before .before .pre .0 .room)
+four-steps-requires-2 : tie.Need-four-steps-requires-2
+four-steps-requires-2 c κs = let b = c .before .before .before .before in steps-room (table b) (start b .pre .0 .table) (four b) (start b .pre .1)
 
-same-length-2 : tie.Need-same-length-2 Inv-loop μ-loop
-same-length-2 c = c .before .loop .inv .1 ∙ sym (c .before .before .before .before .before .before .before .before .before .pre .1)
+four-steps-requires-3 : tie.Need-four-steps-requires-3
+four-steps-requires-3 c κs =
+    let d = c .before .before .before .before in
+    let b = first d in
+    steps-room (table b) (start b .pre .0 .table) (sixteen d) (four b .places)
 
-returns : tie.Need-returns Inv-loop μ-loop
+four-steps-requires-4 : tie.Need-four-steps-requires-4
+four-steps-requires-4 c κs =
+    let e = c .before .before .before .before in
+    let b = first (second e) in
+    steps-room (table b) (start b .pre .0 .table) (more e) (sixteen (second e) .places)
+
+returns : tie.Need-returns
 returns c =
-    let s = c .before .before .before .before .before .before .before .before .before in
-    steps-end (now (s .args .f)) (s .pre .0 .table) (c .before .loop .inv .0) (omega arith)
+    let g = c .before .before in
+    let e = third g in
+    let b = first (second e) in
+    let p = start b .pre .0 in
+    steps-end (table b) (p .table) (steps-four (table b) (p .table) (more e) (g .four-steps4 .ensures)) (omega (arith, p .small))
 
 pub far-points-spec : {M : Type 1} → statement M
 far-points-spec =
     tie.close
     (tie.spec
-    Inv-loop
-    μ-loop
-    copy-requires
-    loop-holds
-    square-requires
-    copy-requires-2
-    add-steps
-    loop-less
-    loop-again
-    same-length
-    same-length-2
+    four-steps-requires
+    four-steps-requires-2
+    four-steps-requires-3
+    four-steps-requires-4
+    (λ c. search needs)
+    (λ c. search needs)
     returns)

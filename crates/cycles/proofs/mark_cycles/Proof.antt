@@ -16,7 +16,7 @@ slice-aggregate-mark-reached c = rw length-take (omega (arith, c .before .before
 mark-reached-requires : tie.Need-mark-reached-requires
 mark-reached-requires c κs =
     let p = c .before .before .before .before .before .pre in
-    (record { table = p .table; room = simp length-take (omega (arith, p .small)); small = p .small }, p .room)
+    (p, simp length-take (omega (arith, p .small)))
 
 same-length : tie.Need-same-length
 same-length c = search needs

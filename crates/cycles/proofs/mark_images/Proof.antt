@@ -14,34 +14,28 @@ Inv-loop far marks₀ x₀ marks x = Marking far marks x
 abbrev μ-loop : tie.MeasureT-loop
 μ-loop far marks₀ x₀ marks x = length far - x
 
-set-all-requires : tie.Need-set-all-requires Inv-loop μ-loop
-set-all-requires c κs = search needs
+-- the place that the needs speak of, named once
+abbrev start : tie.After-slice-known2 Inv-loop μ-loop → tie.Start Inv-loop μ-loop
+start c = c .before .before .before .before .before .before
 
 loop-holds : tie.Need-loop-holds Inv-loop μ-loop
-loop-holds c =
-    let s = c .before .before .before .before .before .before in
-    marking-start (now (s .args .far)) _ _ (c .before .before .set-all .ensures) (s .pre .room)
-
-shared-slice-read-y : tie.Need-shared-slice-read-y Inv-loop μ-loop
-shared-slice-read-y c = search needs
+loop-holds c = marking-start (now (start c .args .far)) _ _ (c .before .before .set-all .ensures) (start c .pre .room)
 
 cast-y : tie.Need-cast-y Inv-loop μ-loop
 cast-y c = omega (arith, c .shared-slice-known2 .given (c .before .before .loop .x))
 
 slice-write-marks : tie.Need-slice-write-marks Inv-loop μ-loop
-slice-write-marks c = omega (arith, c .before .before .loop .inv .same, c .before .before .before .before .before .before .before .before .before .pre .inside (c .before .before .loop .x) (omega arith))
-
-add-x : tie.Need-add-x Inv-loop μ-loop
-add-x c = search needs
-
-loop-less : tie.Need-loop-less Inv-loop μ-loop
-loop-less c = search needs
+slice-write-marks c =
+    let l = c .before .before in
+    omega (arith, l .loop .inv .same, start (l .before) .pre .inside (l .loop .x) (c .before .loop-test .taken))
 
 loop-again : tie.Need-loop-again Inv-loop μ-loop
-loop-again c = marking-next (c .before .before .before .before .before .before .before .before .before .pre .inside) (c .before .before .loop .inv) (omega arith)
+loop-again c =
+    let l = c .before .before in
+    marking-next (start (l .before) .pre .inside) (l .loop .inv) (c .before .loop-test .taken)
 
 same-length : tie.Need-same-length Inv-loop μ-loop
-same-length c = c .before .loop .inv .same ∙ sym (c .before .before .before .before .before .before .before .before .pre .room)
+same-length c = let l = c .before in l .loop .inv .same ∙ sym (start (l .before) .pre .room)
 
 returns : tie.Need-returns Inv-loop μ-loop
 returns c = marking-end (c .before .loop .inv) (omega arith)
@@ -52,13 +46,13 @@ mark-images-spec =
     (tie.spec
     Inv-loop
     μ-loop
-    set-all-requires
+    (λ c κs. search needs)
     loop-holds
-    shared-slice-read-y
+    (λ c. search needs)
     cast-y
     slice-write-marks
-    add-x
-    loop-less
+    (λ c. search needs)
+    (λ c. search needs)
     loop-again
     same-length
     returns)

@@ -5,26 +5,28 @@ use borrow.Author.Needs.{needs}
 use Rattle.cycles.proofs.mark_reached.Statement.{statement}
 use Rattle.cycles.proofs.mark_reached.Tie as tie
 
-far-points-requires : tie.Need-far-points-requires
-far-points-requires c κs = search needs
+-- the places that the needs speak of, each named once
+abbrev start : tie.After-far-points → tie.Start
+start c = c .before .before .before .before .before .before
+
+abbrev reached : tie.After-mark-images-arg2 → tie.After-far-points
+reached c = c .before .before .before .before .before .before
+
+abbrev marked : tie.After-slice-known5 → tie.After-mark-images
+marked c = c .before .before
 
 mark-images-requires : tie.Need-mark-images-requires
 mark-images-requires c κs =
-    let s = c .before .before .before .before .before .before .before .before .before .before .before .before in
-    let called = c .before .before .before .before .before .before .far-points in
-    far-images (s .pre .0 .table) (called .ensures) (called .kept .1 .1 .0 ∙ s .pre .1)
-
-same-length : tie.Need-same-length
-same-length c = search needs
-
-same-length-2 : tie.Need-same-length-2
-same-length-2 c = search needs
+    let r = reached c in
+    let p = start r .pre .0 in
+    far-images (p .table) (r .far-points .ensures) (r .far-points .kept .1 .0 ∙ p .room)
 
 returns : tie.Need-returns
 returns c =
-    let s = c .before .before .before .before .before .before .before .before .before .before .before .before .before .before .before in
-    c .before .before .mark-images .ensures (now (s .args .f)) (s .pre .0 .table) (c .before .before .before .before .before .before .before .before .before .far-points .ensures)
+    let m = marked c in
+    let r = reached (m .before) in
+    m .mark-images .ensures (now (start r .args .f)) (start r .pre .0 .table) (r .far-points .ensures)
 
 pub mark-reached-spec : {M : Type 1} → statement M
 mark-reached-spec =
-    tie.close (tie.spec far-points-requires mark-images-requires same-length same-length-2 returns)
+    tie.close (tie.spec (λ c κs. search needs) mark-images-requires (λ c. search needs) (λ c. search needs) returns)

@@ -6,7 +6,7 @@ use Prim.Native.Nat.{ℕ, _+_, _≤_, _<_}
 use native.Mathlib.Omega.{arith}
 use native.Mathlib.Numerals.{add-one}
 use lib.Dec.{leb}
-use borrow.Author.Tests.{le-leb, lt-leb, leb-true, leb-false}
+use borrow.Author.Tests.{le-leb, leb-true, leb-false}
 use lib.ListN.{length, take, getD}
 use lib.Seq.{take-suc, take-all}
 use Rattle.lists.specs.Select.{range}
@@ -21,8 +21,8 @@ greater m x = cond (leb m x) x m
 greater-right : (m x : ℕ) → m ≤ x → greater m x ≡ x
 greater-right m x h = rw (le-leb m x h)
 
-greater-left : (m x : ℕ) → x < m → greater m x ≡ m
-greater-left m x h = rw (lt-leb m x h)
+greater-left : (m x : ℕ) → x ≤ m → greater m x ≡ m
+greater-left m x h = by-test (leb m x) (λ t. rw t (let b = leb-true m x t in omega arith)) (λ t. rw t)
 
 -- it is not less than either, and no greater than what is not
 greater-bounds : (m x : ℕ) → (m ≤ greater m x) × (x ≤ greater m x)
@@ -59,7 +59,7 @@ greatest-taken s i {m} h e b =
 
 pub greatest-passed : (s : List ℕ) (i : ℕ) {m : ℕ} → i < length s → m ≡ greatest (take i s) → getD s i 0 < m → m ≡ greatest (take (i + 1) s)
 greatest-passed s i {m} h e b =
-    sym (greatest-next s i h ∙ ap (λ g. greater g (getD s i 0)) (sym e) ∙ greater-left m (getD s i 0) b)
+    sym (greatest-next s i h ∙ ap (λ g. greater g (getD s i 0)) (sym e) ∙ greater-left m (getD s i 0) (omega arith))
 
 pub greatest-all : (s : List ℕ) (i : ℕ) → length s ≤ i → greatest (take i s) ≡ greatest s
 greatest-all s i h = ap greatest (take-all i s h)
@@ -86,7 +86,7 @@ module _ (n : ℕ) (f : ℕ → ℕ) where
   pub heightTo-taken : (i : ℕ) {m d : ℕ} → m ≡ heightTo i → d ≡ stepsToCycle n f n i → m ≤ d → d ≡ heightTo (i + 1)
   heightTo-taken i {m} {d} e k b = sym (heightTo-next i ∙ ap₂ greater (sym e) (sym k) ∙ greater-right m d b)
 
-  pub heightTo-passed : (i : ℕ) {m d : ℕ} → m ≡ heightTo i → d ≡ stepsToCycle n f n i → d < m → m ≡ heightTo (i + 1)
+  pub heightTo-passed : (i : ℕ) {m d : ℕ} → m ≡ heightTo i → d ≡ stepsToCycle n f n i → d ≤ m → m ≡ heightTo (i + 1)
   heightTo-passed i {m} {d} e k b = sym (heightTo-next i ∙ ap₂ greater (sym e) (sym k) ∙ greater-left m d b)
 
   pub heightTo-all : heightTo n ≡ height n f

@@ -1,0 +1,44 @@
+use mathlib.Core.Path.{sym}
+use native.Mathlib.Omega.{arith}
+use borrow.Author.Needs.{needs}
+use lib.Seq.{length-take-le}
+use Rattle.cycles.proofs.Marks.{marks-within, marks-back}
+use Rattle.census.proofs.cycle_rows.Statement.{statement}
+use Rattle.census.proofs.cycle_rows.Tie as tie
+
+-- the places that the needs speak of, each named once
+abbrev start : tie.After-marks → tie.Start
+start c = c .before .before .before
+
+abbrev marking : tie.After-marks3 → tie.After-mark-cycles
+marking c = c .before .before
+
+slice-aggregate-mark-cycles : tie.Need-slice-aggregate-mark-cycles
+slice-aggregate-mark-cycles c = sym (length-take-le _ _ (omega (arith, start c .pre .small, c .before .points-room .ensures)))
+
+mark-cycles-requires : tie.Need-mark-cycles-requires
+mark-cycles-requires c κs =
+    let p = start c .pre in
+    record { table = p .table; room = length-take-le _ _ (omega (arith, p .small, c .before .points-room .ensures)); small = p .small }
+
+array-share-prefix-marks : tie.Need-array-share-prefix-marks
+array-share-prefix-marks c = marks-within (c .before .mark-cycles .ensures) _
+
+slice-aggregate-marked-rows : tie.Need-slice-aggregate-marked-rows
+slice-aggregate-marked-rows c = sym (marks-back (marking c .mark-cycles .ensures) _ .same)
+
+marked-rows-requires : tie.Need-marked-rows-requires
+marked-rows-requires c κs = (start (marking c .before) .pre, marks-back (marking c .mark-cycles .ensures) _)
+
+pub cycle-rows-spec : {M : Type 1} → statement M
+cycle-rows-spec =
+    tie.close
+    (tie.spec
+    (λ c κs. search needs)
+    (λ c. search needs)
+    slice-aggregate-mark-cycles
+    mark-cycles-requires
+    array-share-prefix-marks
+    slice-aggregate-marked-rows
+    marked-rows-requires
+    (λ c. search needs))

@@ -1,0 +1,2 @@
+-- What a list of distances notes.
+pub mod Noted
