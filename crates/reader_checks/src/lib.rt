@@ -49,7 +49,7 @@ fn is_shown(code: &[u8], position: usize, part: List) -> bool {
 
 // Whether the answer at a position is the one of a case, and the part is the list.
 fn answers(code: &[u8], position: usize, kind: usize, value: usize, part: List) -> bool {
-    let reply = component_reader::stretch_of(code, position);
+    let reply = component_parts::stretch_of(code, position);
     if !is_answer(reply, kind, value) {
         return false;
     }

@@ -3,3 +3,4 @@ pub mod Prefix
 pub mod Whole
 pub mod Kept
 pub mod Sound
+pub mod Checked
