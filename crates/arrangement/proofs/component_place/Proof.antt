@@ -19,6 +19,13 @@ Inv-loop c sizes trees index₀ at₀ index at = (x : Component) (S : System) �
 abbrev μ-loop : tie.MeasureT-loop
 μ-loop c sizes trees index₀ at₀ index at = length sizes - index
 
+-- the places that the needs speak of, each named once
+abbrev start : tie.At-loop Inv-loop μ-loop → tie.Start Inv-loop μ-loop
+start c = c .before .before .before .before
+
+abbrev turn : tie.After-compare-generated Inv-loop μ-loop → tie.At-loop Inv-loop μ-loop
+turn c = c .before .before .before .before
+
 loop-holds : tie.Need-loop-holds Inv-loop μ-loop
 loop-holds c = λ x S e g q. searching-start x S
 
@@ -27,8 +34,9 @@ cast-next c = omega (arith, c .shared-slice-known4 .given (c .before .before .lo
 
 add-next : tie.Need-add-next Inv-loop μ-loop
 add-next c =
-    let a = c .before .before .before .before .before .before .pre in
-    omega (arith, searching-bound a (c .before .before .loop .inv) (omega arith), a .small)
+    let l = c .before .before in
+    let a = start l .pre in
+    omega (arith, searching-bound a (l .loop .inv) (omega arith), a .small)
 
 part-compare-generated-end : tie.Need-part-compare-generated-end Inv-loop μ-loop
 part-compare-generated-end c = omega (arith, searching-bound (c .before .before .before .before .before .before .pre) (c .before .before .loop .inv) (omega arith))
@@ -40,19 +48,19 @@ compare-generated-requires c κs = searching-both (c .before .before .before .be
 returns : tie.Need-returns Inv-loop μ-loop
 returns c =
     let w = c .before .before in
-    search-stop (w .before .before .before .before .before .before .before .before .pre) (w .before .before .before .before .loop .inv) (omega arith)
+    search-stop (start (turn w) .pre) (turn w .loop .inv) (omega arith)
     (w .compare-generated .ensures) (ap (λ o. isLe (orderingOf o)) (c .enum-told .given .1)) _ refl refl
 
 returns-2 : tie.Need-returns-2 Inv-loop μ-loop
 returns-2 c =
     let w = c .before .before in
-    search-stop (w .before .before .before .before .before .before .before .before .pre) (w .before .before .before .before .loop .inv) (omega arith)
+    search-stop (start (turn w) .pre) (turn w .loop .inv) (omega arith)
     (w .compare-generated .ensures) (ap (λ o. isLe (orderingOf o)) (c .enum-told2 .given .1)) _ refl refl
 
 loop-again : tie.Need-loop-again Inv-loop μ-loop
 loop-again c =
     let w = c .before .before in
-    search-step (w .before .before .before .before .before .before .before .before .pre) (w .before .before .before .before .loop .inv) (omega arith)
+    search-step (start (turn w) .pre) (turn w .loop .inv) (omega arith)
     (w .compare-generated .ensures) (ap (λ o. isLe (orderingOf o)) (c .enum-told3 .given .1))
 
 returns-3 : tie.Need-returns-3 Inv-loop μ-loop

@@ -9,12 +9,25 @@ use Rattle.arrangement.proofs.ComponentInserting.{asked-place, place-wi
 use Rattle.arrangement.proofs.insert_component.Statement.{statement}
 use Rattle.arrangement.proofs.insert_component.Tie as tie
 
--- Where the place of the component is known: what was asked for, and that the place is before the component.
-abbrev asked : (c : tie.After-component-place) → let a = c .before .before .before .before .before .before .before .before .args in
-    InsertAsked (now (a .sizes)) (a .m) (now (a .trees)) (now (a .labels)) (a .end) (a .next)
-asked c = c .before .before .before .before .before .before .before .before .pre
+-- the places that the needs speak of, each named once
+abbrev called : tie.After-trees → tie.Start
+called c = c .before .before .before .before
 
-abbrev within : (c : tie.After-component-place) → let a = c .before .before .before .before .before .before .before .before .args in
+abbrev start : tie.After-component-place → tie.Start
+start c = called (c .before .before .before .before)
+
+abbrev found : tie.After-exchange → tie.After-component-place
+found c = c .before .before
+
+abbrev sized : tie.After-exchange-arg3 → tie.After-exchange
+sized c = c .before .before .before .before .before .before .before
+
+-- Where the place of the component is known: what was asked for, and that the place is before the component.
+abbrev asked : (c : tie.After-component-place) → let a = start c .args in
+    InsertAsked (now (a .sizes)) (a .m) (now (a .trees)) (now (a .labels)) (a .end) (a .next)
+asked c = start c .pre
+
+abbrev within : (c : tie.After-component-place) → let a = start c .args in
     (c .component-place .result .index ≤ a .m) × (c .component-place .result .at ≤ a .end)
 within c = place-within (asked c) (c .component-place .ensures)
 
@@ -31,18 +44,18 @@ exchange-requires-2 : tie.Need-exchange-requires-2
 exchange-requires-2 c κs = let p = c .before .before .before .before .before in ((within p) .1, (asked p) .after, (asked p) .fits)
 
 exchange-requires-3 : tie.Need-exchange-requires-3
-exchange-requires-3 c κs = let p = c .before .before .before .before .before .before .before .before .before in ((within p) .1, (asked p) .after, omega (arith, (asked p) .fits, (asked p) .same))
+exchange-requires-3 c κs = let p = found (sized c) in ((within p) .1, (asked p) .after, omega (arith, (asked p) .fits, (asked p) .same))
 
 same-length : tie.Need-same-length
-same-length c = c .before .before .before .before .before .before .before .before .before .before .exchange .kept .0 ∙ simp length-set
+same-length c = sized (c .before .before .before) .exchange .kept .0 ∙ simp length-set
 
 returns : tie.Need-returns
 returns c =
     let third = c .before .before in
     let second = third .before .before .before .before in
     let first = second .before .before .before .before in
-    let p = first .before .before in
-    let a = p .before .before .before .before .before .before .before .before .args in
+    let p = found first in
+    let a = start p .args in
     let r = p .component-place in
     record {
       inserts = λ pic x d e h k b q g s.

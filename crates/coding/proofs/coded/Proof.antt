@@ -13,12 +13,18 @@ slice-aggregate-mark-cycles c = sym (places (c .before .before .before .pre) _ (
 mark-cycles-requires : tie.Need-mark-cycles-requires
 mark-cycles-requires c κs = marks-asked (c .before .before .before .pre) _ (c .before .points-room .ensures)
 
+abbrev start : tie.After-mark-cycles → tie.Start
+start c = c .before .before .before .before
+
 -- the place where all rooms are made: the table, and its marks in the front of their room
-abbrev checked : (c : tie.After-points-room4) → Table (now (c .before .before .before .before .before .before .before .before .args .f))
-checked c = c .before .before .before .before .before .before .before .before .pre
+abbrev marked : tie.After-points-room4 → tie.After-mark-cycles
+marked c = c .before .before .before .before
+
+abbrev checked : (c : tie.After-points-room4) → Table (now (start (marked c) .args .f))
+checked c = start (marked c) .pre
 
 array-share-prefix-marks : tie.Need-array-share-prefix-marks
-array-share-prefix-marks c = marks-within (checked c) (c .before .before .before .before .mark-cycles .ensures) _
+array-share-prefix-marks c = marks-within (checked c) (marked c .mark-cycles .ensures) _
 
 slice-aggregate-system-of : tie.Need-slice-aggregate-system-of
 slice-aggregate-system-of c = sym (length-take-le _ _ (array-share-prefix-marks (c .before)))

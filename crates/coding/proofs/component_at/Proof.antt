@@ -10,13 +10,20 @@ use Rattle.coding.proofs.TurnedLeast.{written-bound, written-part, turn
 use Rattle.coding.proofs.component_at.Statement.{statement}
 use Rattle.coding.proofs.component_at.Tie as tie
 
+-- the place where the slices are known, and the start
+abbrev known : tie.After-trees-along → tie.After-slice-known2
+known c = c .before .before .before
+
+abbrev start : tie.After-trees-along → tie.Start
+start c = known c .before .before .before .before .before
+
 -- Where the trees are written, what was asked for; where the start of the least rotation is known, what it says of the trees.
-abbrev asked : (c : tie.After-trees-along) → let a = c .before .before .before .before .before .before .before .before .args in
+abbrev asked : (c : tie.After-trees-along) → let a = start c .args in
     CycleAsked (now (a .f)) (now (a .last)) (now (a .before)) (a .x) (now (a .trees)) (now (a .labels)) (a .at)
-asked c = c .before .before .before .before .before .before .before .before .pre
+asked c = start c .pre
 
 abbrev around : tie.After-trees-along → Component
-around c = let a = c .before .before .before .before .before .before .before .before .args in map shape (plantsAlong (now (a .f)) (a .x))
+around c = let a = start c .args in map shape (plantsAlong (now (a .f)) (a .x))
 
 abbrev along : tie.After-least-start → tie.After-trees-along
 along c = c .before .before .before .before .before .before .before

@@ -18,16 +18,26 @@ Inv-loop f leads last before sizes₀ trees₀ labels₀ m₀ end₀ x₀ sizes 
 abbrev μ-loop : tie.MeasureT-loop
 μ-loop f leads last before sizes₀ trees₀ labels₀ m₀ end₀ x₀ sizes trees labels m end x = x
 
+-- The places that the needs speak of, each named once.
+abbrev called : tie.After-slice-known Inv-loop μ-loop → tie.Start Inv-loop μ-loop
+called c = c .before .before .before .before .before
+
+abbrev start : tie.At-loop Inv-loop μ-loop → tie.Start Inv-loop μ-loop
+start c = called (c .before .before .before)
+
 -- At the loop, what was asked for; where its point leads a cycle, that it does; and where its component is written.
-abbrev given : (c : tie.At-loop Inv-loop μ-loop) → let a = c .before .before .before .before .before .before .before .before .args in
+abbrev given : (c : tie.At-loop Inv-loop μ-loop) → let a = start c .args in
     ComponentsAsked (now (a .f)) (now (a .leads)) (now (a .last)) (now (a .before)) (now (a .sizes)) (now (a .trees)) (now (a .labels))
-given c = c .before .before .before .before .before .before .before .before .pre
+given c = start c .pre
 
 abbrev turn : tie.Then1 Inv-loop μ-loop → tie.At-loop Inv-loop μ-loop
 turn c = c .before .before .before
 
-leads : (c : tie.Then1 Inv-loop μ-loop) → let f = now ((turn c) .before .before .before .before .before .before .before .before .args .f) in leadsCycle (length f) (image f) ((turn c) .loop .x - 1) ≡ true
+leads : (c : tie.Then1 Inv-loop μ-loop) → let f = now (start (turn c) .args .f) in leadsCycle (length f) (image f) ((turn c) .loop .x - 1) ≡ true
 leads c = leader-yes ((given (turn c)) .leaders) (omega (arith, (turn c) .loop .inv .passed)) (c .if1 .taken)
+
+abbrev component : tie.After-slice-known5 Inv-loop μ-loop → tie.After-component-at Inv-loop μ-loop
+component c = c .before .before .before .before
 
 abbrev found : tie.After-component-at Inv-loop μ-loop → tie.Then1 Inv-loop μ-loop
 found c = c .before .before .before
@@ -51,19 +61,20 @@ component-at-requires c κs =
 
 insert-component-requires : tie.Need-insert-component-requires Inv-loop μ-loop
 insert-component-requires c κs =
-    let w = c .before .before .before .before .before .before .before in
+    let w = component (c .before .before .before) in
     let l = turn (found w) in
     collecting-insert ((given l) .asked) (l .loop .inv) (l .loop .x - 1) (omega arith) (leads (found w)) (w .component-at .ensures)
 
 add-m : tie.Need-add-m Inv-loop μ-loop
 add-m c =
-    let l = turn (found (c .before .before .before .before .before .before .before .before .before .before .before .before .before .before)) in
+    let i = c .before .before .before .before .before .before in
+    let l = turn (found (component (i .before .before .before .before))) in
     omega (arith, collecting-bound ((given l) .asked) (l .loop .inv), (given l) .asked .prepared .small)
 
 loop-again : tie.Need-loop-again Inv-loop μ-loop
 loop-again c =
     let i = c .before .before .before .before .before .before in
-    let w = i .before .before .before .before .before .before .before .before in
+    let w = component (i .before .before .before .before) in
     let l = turn (found w) in
     collecting-take ((given l) .asked) (l .loop .inv) (l .loop .x - 1) (omega arith) (leads (found w)) (w .component-at .ensures)
     (i .insert-component .kept .0) (i .insert-component .ensures)

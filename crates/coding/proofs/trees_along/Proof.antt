@@ -18,14 +18,30 @@ Inv-loop f last before x trees₀ labels₀ at n end₀ y₀ trees labels end y 
 abbrev μ-loop : tie.MeasureT-loop
 μ-loop f last before x trees₀ labels₀ at n end₀ y₀ trees labels end y = length f - end
 
--- At the loop, what was asked for, and how far the trees are written.
-abbrev asked : (c : tie.At-loop Inv-loop μ-loop) → let a = c .before .before .before .before .before .before .before .before .before .before .before .before .before .before .args in
-    CycleAsked (now (a .f)) (now (a .last)) (now (a .before)) (a .x) (now (a .trees)) (now (a .labels)) (a .at)
-asked c = c .before .before .before .before .before .before .before .before .before .before .before .before .before .before .pre
+-- The places that the needs speak of, each named once: the first tree is written; the walk along the cycle.
+abbrev known : tie.After-tree-at Inv-loop μ-loop → tie.After-slice-known2 Inv-loop μ-loop
+known c = c .before .before .before
 
-abbrev circling : (c : tie.At-loop Inv-loop μ-loop) → let a = c .before .before .before .before .before .before .before .before .before .before .before .before .before .before .args in
+abbrev called : tie.After-tree-at Inv-loop μ-loop → tie.Start Inv-loop μ-loop
+called c = known c .before .before .before .before .before
+
+abbrev first : tie.At-loop Inv-loop μ-loop → tie.After-tree-at Inv-loop μ-loop
+first c = c .before .before .before .before .before .before
+
+abbrev start : tie.At-loop Inv-loop μ-loop → tie.Start Inv-loop μ-loop
+start c = called (first c)
+
+abbrev turn : tie.After-tree-at2 Inv-loop μ-loop → tie.At-loop Inv-loop μ-loop
+turn c = c .before .before .before .before
+
+-- At the loop, what was asked for, and how far the trees are written.
+abbrev asked : (c : tie.At-loop Inv-loop μ-loop) → let a = start c .args in
+    CycleAsked (now (a .f)) (now (a .last)) (now (a .before)) (a .x) (now (a .trees)) (now (a .labels)) (a .at)
+asked c = start c .pre
+
+abbrev circling : (c : tie.At-loop Inv-loop μ-loop) → let a = start c .args in
     Circling (now (a .f)) (a .x) (a .at) (now (a .trees)) (now (a .labels)) (c .loop .y) (c .loop .end) (c .loop .trees) (c .loop .labels)
-circling c = c .loop .inv _ _ (asked c) (c .before .before .before .before .before .before .tree-at .ensures _ (circling-first (asked c)))
+circling c = c .loop .inv _ _ (asked c) (first c .tree-at .ensures _ (circling-first (asked c)))
 
 sub-tree-at : tie.Need-sub-tree-at Inv-loop μ-loop
 sub-tree-at c = omega (arith, c .before .before .before .before .before .pre .room)
@@ -34,10 +50,10 @@ tree-at-requires : tie.Need-tree-at-requires Inv-loop μ-loop
 tree-at-requires c κs = let s = c .before .before .before .before .before .before .before in record { of = now (s .args .f); asked = circling-first (s .pre) }
 
 shared-slice-read-y : tie.Need-shared-slice-read-y Inv-loop μ-loop
-shared-slice-read-y c = c .before .before .before .before .before .before .before .before .before .before .before .before .before .pre .here
+shared-slice-read-y c = called (c .before .before .before .before .before) .pre .here
 
 cast-y : tie.Need-cast-y Inv-loop μ-loop
-cast-y c = omega (arith, c .shared-slice-known4 .given (c .before .before .before .before .before .before .before .before .before .before .before .before .before .args .x))
+cast-y c = omega (arith, c .shared-slice-known4 .given (called (c .before .before .before .before .before) .args .x))
 
 loop-holds : tie.Need-loop-holds Inv-loop μ-loop
 loop-holds c = λ d e a w. circling-start a w
@@ -49,13 +65,13 @@ tree-at-requires-2 : tie.Need-tree-at-requires-2 Inv-loop μ-loop
 tree-at-requires-2 c κs =
     let t = c .before .before in
     let l = t .before in
-    record { of = now (l .before .before .before .before .before .before .before .before .before .before .before .before .before .before .args .f); asked = circling-asked (asked l) (circling l) (t .loop-test .taken) }
+    record { of = now (start l .args .f); asked = circling-asked (asked l) (circling l) (t .loop-test .taken) }
 
 shared-slice-read-y-2 : tie.Need-shared-slice-read-y-2 Inv-loop μ-loop
-shared-slice-read-y-2 c = (circling (c .before .before .before .before .before .before .before .before .before)) .here
+shared-slice-read-y-2 c = (circling (turn (c .before .before .before .before .before))) .here
 
 cast-y-2 : tie.Need-cast-y-2 Inv-loop μ-loop
-cast-y-2 c = omega (arith, c .shared-slice-known5 .given (c .before .before .before .before .before .before .before .before .before .loop .y))
+cast-y-2 c = omega (arith, c .shared-slice-known5 .given (turn (c .before .before .before .before .before) .loop .y))
 
 loop-less : tie.Need-loop-less Inv-loop μ-loop
 loop-less c =
