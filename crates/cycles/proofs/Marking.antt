@@ -4,7 +4,7 @@ use mathlib.Core.Path.{_≡_, refl, ap, sym, subst, _∙_}
 use mathlib.Core.Logic.{_⊎_, inl, inr}
 use mathlib.Core.Bool.{true}
 use mathlib.Core.List.{List, [], _∷_, map, map-append}
-use Prim.Native.Nat.{ℕ, _+_, _-_, _≤_, _<_}
+use Prim.Native.Nat.{ℕ, zero, suc, _+_, _-_, _≤_, _<_}
 use native.Mathlib.Numerals.{add-one}
 use native.Mathlib.Omega.{arith}
 use lib.Dec.{eqb}
@@ -16,7 +16,7 @@ use Rattle.lists.proofs.Tests.{by-test, either, no-both}
 use Rattle.lists.proofs.Gathering.{getD-map}
 use Rattle.patterns.specs.Table.{image, isTable, onCycle}
 use Rattle.map_theory.specs.Iteration.{iterate}
-use Rattle.cycles.specs.Marks.{Images, Far, Marked}
+use Rattle.cycles.specs.Marks.{Images, ImagesMarked, NoneLeftOut, Far, Marked}
 use Rattle.map_theory.proofs.Orbits.{iterate-add, iterate-swap, iterate-inside, onCycle-moves, onCycle-back, every-point-reaches-cycle}
 use Rattle.map_theory.proofs.Isomorphisms.{table-below}
 
@@ -140,8 +140,12 @@ marking-next {far} {marks} {x} inside m h =
       done = below-more (λ w. getD (set marks y 1) (image far w) 0 ≡ 1) x (λ w b. old (image far w) (m .done w b)) new;
     }
 
-pub marking-end : {far marks : List ℕ} {x : ℕ} → Marking far marks x → length far ≤ x → (f : List ℕ) → isTable f ≡ true → Far f far → Marked f marks
-marking-end {far} {marks} {x} m h f table s =
+pub marking-end : {far marks : List ℕ} {x : ℕ} → Marking far marks x → length far ≤ x → ImagesMarked far marks
+marking-end m h = record { same = m .same; sound = m .sound; done = λ w b. m .done w (omega arith) }
+
+-- the images of many steps are the points on cycles
+pub reached-marked : {far marks : List ℕ} → ImagesMarked far marks → (f : List ℕ) → isTable f ≡ true → Far f far → Marked f marks
+reached-marked {far} {marks} m f table s =
     let k = s .steps in
     record {
       same = m .same ∙ s .places;
@@ -152,6 +156,31 @@ marking-end {far} {marks} {x} m h f table s =
           (λ t. rw t (either (m .sound z (omega (arith, s .places))) (λ e. e)
           (λ e. no-both (ap (λ y. onCycle (length f) (image f) y) (sym (sym (s .images (e .1 .0) (omega (arith, e .1 .1, s .places))) ∙ e .1 .2)) ∙ far-onCycle f table k (s .enough) (e .1 .0) (omega (arith, e .1 .1, s .places))) t)));
     }
+
+-- Where every point is an image, every point is reached in any number of steps, so that all are on cycles.
+onto-reached : (n : ℕ) (f : ℕ → ℕ) → ((z : ℕ) → z < n → (w : ℕ) × (w < n) × (f w ≡ z)) → (k z : ℕ) → z < n → (w : ℕ) × (w < n) × (iterate f k w ≡ z)
+onto-reached n f onto zero z h = (z, h, refl)
+onto-reached n f onto (suc k) z h =
+    let r = onto-reached n f onto k z h in
+    let s = onto (r .0) (r .1) in
+    (s .0, s .1, ap (iterate f k) (s .2) ∙ r .2)
+
+pub all-on-cycles : {f marks : List ℕ} → isTable f ≡ true → ImagesMarked f marks → NoneLeftOut marks → Marked f marks
+all-on-cycles {f} {marks} table m none =
+    let image-of : (z : ℕ) → z < length f → (getD marks z 0 ≡ 1) × ((w : ℕ) × (w < length f) × (image f w ≡ z)) =
+    λ z h. either (m .sound z h) (λ e. absurd (none z (omega (arith, m .same)) e)) (λ e. e) in
+    record {
+      same = m .same;
+      marks-are = λ z h.
+          let r = onto-reached (length f) (image f) (λ y b. image-of y b .1) (length f) z h in
+          let on : onCycle (length f) (image f) z ≡ true =
+          ap (λ y. onCycle (length f) (image f) y) (sym (r .2)) ∙ far-onCycle f table (length f) (omega arith) (r .0) (r .1) in
+          rw on (image-of z h .0);
+    }
+
+-- the marks that were read so far are not 0
+pub none-more : (marks : List ℕ) (x : ℕ) → ((z : ℕ) → z < x → getD marks z 0 ≡ 0 → ⊥) → (getD marks x 0 ≡ 0 → ⊥) → (z : ℕ) → z < x + 1 → getD marks z 0 ≡ 0 → ⊥
+none-more marks x w h = below-more (λ z. getD marks z 0 ≡ 0 → ⊥) x w h
 
 -- many steps lead to points
 pub far-images : {f far marks : List ℕ} → isTable f ≡ true → Far f far → length marks ≡ length f → Images far marks

@@ -4,12 +4,11 @@ use patterns::points_room;
 ghost use denote.Ref.{now};
 ghost use mathlib.Core.Path.{_≡_};
 ghost use mathlib.Core.Bool.{true};
-ghost use mathlib.Core.List.{List, map};
-ghost use Prim.Native.Nat.{ℕ, _+_, _<_};
+ghost use mathlib.Core.List.{map};
 ghost use lib.ListN.{length};
-ghost use Rattle.patterns.specs.Table.{image, isTable, cycleFrom};
+ghost use Rattle.patterns.specs.Table.{image, cycleFrom};
 ghost use Rattle.map_theory.specs.Iteration.{iterate};
-ghost use Rattle.cycles.specs.Marks.{MarksAsked, Images, Far, Marked, CyclePoint};
+ghost use Rattle.cycles.specs.Marks.{MarksAsked, Images, ImagesMarked, NoneLeftOut, Far, Marked, CyclePoint};
 
 // `out` is the table of four steps of the table `s`.
 fn four_steps(s: &[u8], out: &mut [u8])
@@ -40,7 +39,7 @@ fn far_points(f: &[u8], work: &mut [u8], far: &mut [u8])
 // Marks the images of all points.
 fn mark_images(far: &[u8], marks: &mut [u8])
     requires { ⌜ Images (now far) (now marks) ⌝ }
-    ensures { λ r. ⌜ ((f : List ℕ) → isTable f ≡ true → Far f (now (far .entry)) → Marked f (now (marks .exit))) ⌝ }
+    ensures { λ r. ⌜ ImagesMarked (now (far .entry)) (now (marks .exit)) ⌝ }
 {
     set_all(marks, 0);
     let mut x = 0;
@@ -60,11 +59,29 @@ fn mark_reached(f: &[u8], far: &mut [u8], marks: &mut [u8])
     mark_images(far, marks);
 }
 
-// `marks` tells the points on cycles, 1, from the others, 0.
+// Whether no mark is 0.
+fn all_marked(marks: &[u8]) -> bool
+    ensures { λ r. ⌜ (r ≡ true → NoneLeftOut (now (marks .entry))) ⌝ }
+{
+    let mut x = 0;
+    while x < marks.len() {
+        if marks[x] == 0 {
+            return false;
+        }
+        x += 1;
+    }
+    true
+}
+
+// `marks` tells the points on cycles, 1, from the others, 0. Where every point is an image all are on cycles.
 pub fn mark_cycles(f: &[u8], marks: &mut [u8])
     requires { ⌜ MarksAsked (now f) (now marks) ⌝ }
     ensures { λ r. ⌜ Marked (now (f .entry)) (now (marks .exit)) ⌝ }
 {
+    mark_images(f, marks);
+    if all_marked(marks) {
+        return;
+    }
     let mut far = points_room();
     mark_reached(f, &mut far[..f.len()], marks);
 }

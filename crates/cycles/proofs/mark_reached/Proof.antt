@@ -1,6 +1,6 @@
 use denote.Ref.{now}
 use mathlib.Core.Path.{_∙_}
-use Rattle.cycles.proofs.Marking.{far-images}
+use Rattle.cycles.proofs.Marking.{far-images, reached-marked}
 use borrow.Author.Needs.{needs}
 use Rattle.cycles.proofs.mark_reached.Statement.{statement}
 use Rattle.cycles.proofs.mark_reached.Tie as tie
@@ -25,7 +25,7 @@ returns : tie.Need-returns
 returns c =
     let m = marked c in
     let r = reached (m .before) in
-    m .mark-images .ensures (now (start r .args .f)) (start r .pre .0 .table) (r .far-points .ensures)
+    reached-marked (m .mark-images .ensures) (now (start r .args .f)) (start r .pre .0 .table) (r .far-points .ensures)
 
 pub mark-reached-spec : {M : Type 1} → statement M
 mark-reached-spec =

@@ -1,7 +1,8 @@
 use denote.Ref.{now}
 use mathlib.Core.Path.{_≡_, ap, sym, _∙_}
 use mathlib.Core.Logic.{⊎-elim}
-use Prim.Native.Nat.{_-_, _≤_, _<_}
+use mathlib.Core.List.{List}
+use Prim.Native.Nat.{ℕ, _-_, _≤_, _<_}
 use lib.ListN.{length, getD, replicate}
 use Rattle.links.specs.Links.{LinksAsked, Links}
 use Rattle.cycles.proofs.Marks.{inside}
@@ -17,32 +18,46 @@ Inv-loop f marks last₀ before₀ y₀ last before y = (y ≤ length f) × Link
 abbrev μ-loop : tie.MeasureT-loop
 μ-loop f marks last₀ before₀ y₀ last before y = length f - y
 
--- At the loop, what was asked for, and that the image of its point has a place.
-abbrev asked : (c : tie.At-loop Inv-loop μ-loop) → let a = c .before .before .before .before .before .before .before .before .before .args in LinksAsked (now (a .f)) (now (a .marks)) (now (a .last)) (now (a .before))
-asked c = c .before .before .before .before .before .before .before .before .before .pre
+-- the places that the needs speak of, each named once
+abbrev zeroed : tie.At-loop Inv-loop μ-loop → tie.After-set-all Inv-loop μ-loop
+zeroed l = l .before .before .before
 
-has-place : (c : tie.At-loop Inv-loop μ-loop) → let f = now (c .before .before .before .before .before .before .before .before .before .args .f) in c .loop .y < length f → getD f (c .loop .y) 0 < length (c .loop .last)
-has-place c h = omega (arith, inside (now (c .before .before .before .before .before .before .before .before .before .args .f)) ((asked c) .table) (c .loop .y) h, c .loop .inv .1 .last-room)
+abbrev start : tie.After-set-all Inv-loop μ-loop → tie.Start Inv-loop μ-loop
+start c = c .before .before .before .before .before .before
+
+abbrev table : tie.At-loop Inv-loop μ-loop → List ℕ
+table l = now (start (zeroed l) .args .f)
+
+abbrev linking : tie.After-slice-known4 Inv-loop μ-loop → tie.At-loop Inv-loop μ-loop
+linking c = c .before .before .before .before .before
+
+-- At the loop, what was asked for, and that the image of its point has a place.
+abbrev asked : (l : tie.At-loop Inv-loop μ-loop) → let a = start (zeroed l) .args in LinksAsked (now (a .f)) (now (a .marks)) (now (a .last)) (now (a .before))
+asked l = start (zeroed l) .pre
+
+has-place : (l : tie.At-loop Inv-loop μ-loop) → l .loop .y < length (table l) → getD (table l) (l .loop .y) 0 < length (l .loop .last)
+has-place l h = omega (arith, inside (table l) ((asked l) .table) (l .loop .y) h, l .loop .inv .1 .last-room)
 
 loop-holds : tie.Need-loop-holds Inv-loop μ-loop
 loop-holds c =
-    let s = c .before .before .before .before .before .before .before .before in
-    (omega arith, links-none (c .before .before .set-all .ensures ∙ ap (λ n. replicate n 0) (s .pre .last-room)) (s .pre .before-room))
+    let z = c .before .before in
+    let s = start z in
+    (omega arith, links-none (z .set-all .ensures ∙ ap (λ n. replicate n 0) (s .pre .last-room)) (s .pre .before-room))
 
 cast-x : tie.Need-cast-x Inv-loop μ-loop
 cast-x c = omega (arith, c .shared-slice-known4 .given (c .before .before .before .before .loop .y))
 
 slice-read-before : tie.Need-slice-read-before Inv-loop μ-loop
-slice-read-before c = let l = c .before .before .before .before .before in omega (arith, has-place l (omega arith), l .loop .inv .1 .last-room)
+slice-read-before c = let l = linking c in omega (arith, has-place l (omega arith), l .loop .inv .1 .last-room)
 
 slice-write-before : tie.Need-slice-write-before Inv-loop μ-loop
-slice-write-before c = omega (arith, c .before .before .before .before .before .loop .inv .1 .before-room)
+slice-write-before c = omega (arith, linking c .loop .inv .1 .before-room)
 
 cast-last : tie.Need-cast-last Inv-loop μ-loop
-cast-last c = omega (arith, (asked (c .before .before .before .before .before)) .small)
+cast-last c = omega (arith, (asked (linking c)) .small)
 
 slice-write-last : tie.Need-slice-write-last Inv-loop μ-loop
-slice-write-last c = has-place (c .before .before .before .before .before) (omega arith)
+slice-write-last c = has-place (linking c) (omega arith)
 
 loop-again : tie.Need-loop-again Inv-loop μ-loop
 loop-again c =
@@ -64,7 +79,7 @@ same-length-2 c = let l = c .before in l .loop .inv .1 .before-room ∙ sym ((as
 returns : tie.Need-returns Inv-loop μ-loop
 returns c =
     let l = c .before in
-    let e : l .loop .y ≡ length (now (l .before .before .before .before .before .before .before .before .before .args .f)) = omega arith in
+    let e : l .loop .y ≡ length (table l) = omega arith in
     rw e at (l .loop .inv .1)
 
 pub link-branches-spec : {M : Type 1} → statement M
