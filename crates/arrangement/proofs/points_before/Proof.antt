@@ -46,10 +46,11 @@ at-most-requires c κs = search needs
 
 returns : tie.Need-returns Inv-loop μ-loop
 returns c =
-    let w = c .before .before .before .before .before .loop .inv in
+    let turn = c .before .before .before .before .before in
+    let w = turn .loop .inv in
     let n = along-next w (omega arith) in
     let r = c .before .at-most in
-    let q = ap (atMost (lex compare) (now (c .before .before .before .before .before .before .before .before .args .tree))) (sym (next-stretch n)) ∙ sym (r .ensures) ∙ c .if1 .taken in
+    let q = ap (atMost (lex compare) (now (turn .before .before .before .args .tree))) (sym (next-stretch n)) ∙ sym (r .ensures) ∙ c .if1 .taken in
     (omega arith, exceeds-stop w n q)
 
 loop-less : tie.Need-loop-less Inv-loop μ-loop
@@ -59,10 +60,11 @@ loop-less c =
 
 loop-again : tie.Need-loop-again Inv-loop μ-loop
 loop-again c =
-    let w = c .before .before .before .before .before .loop .inv in
+    let turn = c .before .before .before .before .before in
+    let w = turn .loop .inv in
     let n = along-next w (omega arith) in
     let r = c .before .at-most in
-    let q = ap (atMost (lex compare) (now (c .before .before .before .before .before .before .before .before .args .tree))) (sym (next-stretch n)) ∙ sym (r .ensures) ∙ c .if1 .left in
+    let q = ap (atMost (lex compare) (now (turn .before .before .before .args .tree))) (sym (next-stretch n)) ∙ sym (r .ensures) ∙ c .if1 .left in
     exceeds-step w n q
 
 returns-2 : tie.Need-returns-2 Inv-loop μ-loop

@@ -58,13 +58,15 @@ tree-images-requires c κs =
 
 loop-less : tie.Need-loop-less Inv-loop μ-loop
 loop-less c =
-    let l = c .before .before .before .before .before .before .before .loop in
-    omega (arith, component-bounds (c .before .before .before .before .before .before .before .before .before .before .pre) (l .inv .0) (l .inv .1) (omega arith))
+    let turn = c .before .before .before .before .before .before .before in
+    let l = turn .loop in
+    omega (arith, component-bounds (turn .before .before .before .pre) (l .inv .0) (l .inv .1) (omega arith))
 
 loop-again : tie.Need-loop-again Inv-loop μ-loop
 loop-again c =
-    let s = c .before .before .before .before .before .before .before .before .before .before in
-    let l = c .before .before .before .before .before .before .before .loop in
+    let turn = c .before .before .before .before .before .before .before in
+    let s = turn .before .before .before in
+    let l = turn .loop in
     let x = c .before .before .before .before .root-image in
     let call = c .before .before .tree-images in (
       call .kept .1 .1 .0 ∙ length-set (l .out) (l .p) (x .result) ∙ l .inv .0,

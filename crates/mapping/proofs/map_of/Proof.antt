@@ -36,8 +36,9 @@ cycle-images-requires c κs =
 
 loop-again : tie.Need-loop-again Inv-loop μ-loop
 loop-again c =
-    let s = c .before .before .before .before .before .before .before .before .before .before in
-    let l = c .before .before .before .before .before .before .loop in
+    let turn = c .before .before .before .before .before .before in
+    let s = turn .before .before .before .before in
+    let l = turn .loop in
     let call = c .before .before .cycle-images in (
       call .kept .1 .1 .1 .0 ∙ l .inv .0,
       components-next (s .pre) (l .inv .0) (l .inv .1) (omega arith) (call .last .1 .1 .1 .0) (call .ensures),

@@ -36,8 +36,9 @@ loop-less c = search needs
 
 loop-again : tie.Need-loop-again Inv-loop μ-loop
 loop-again c =
-    let l = c .before .before .before .before .before .before .loop in
-    let a = c .before .before .before .before .before .before .before .before .before .args in
+    let turn = c .before .before .before .before .before .before in
+    let l = turn .loop in
+    let a = turn .before .before .before .args in
     let p = c .before .before .put-byte .ensures in (
       omega arith,
       search needs,
