@@ -1,4 +1,5 @@
 -- The laws that the functions on the cycles of a table cite.
 pub mod Marks
-pub mod Marking
+pub mod Counting
+pub mod Pruning
 pub mod Walking
