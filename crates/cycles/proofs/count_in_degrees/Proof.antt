@@ -4,10 +4,9 @@ use Prim.Native.Nat.{_-_}
 use native.Mathlib.Omega.{arith}
 use borrow.Author.Needs.{needs}
 use lib.ListN.{length}
-use Rattle.cycles.proofs.Pruning.{Counting, counting-start, counting-place, counting-bound, counting-next, counting-end}
+use Rattle.cycles.proofs.Degrees.{Counting, counting-start, counting-place, counting-bound, counting-next, counting-end}
 use Rattle.cycles.proofs.count_in_degrees.Statement.{statement}
 use Rattle.cycles.proofs.count_in_degrees.Tie as tie
-use Rattle.lists.proofs.set_all.Reads as set-all-reads
 
 abbrev Inv-loop : tie.InvT-loop
 Inv-loop f degrees₀ x₀ degrees x = Counting f degrees x

@@ -1,10 +1,10 @@
-use mathlib.Core.Logic.{⊎-elim}
 use denote.Ref.{now}
+use mathlib.Core.Logic.{⊎-elim}
 use Prim.Native.Nat.{_-_}
 use native.Mathlib.Omega.{arith}
 use borrow.Author.Needs.{needs}
 use lib.ListN.{length}
-use Rattle.cycles.proofs.Pruning.{Marking, marking-start, marking-off, marking-on, marking-end}
+use Rattle.cycles.proofs.Marking.{Marking, marking-start, marking-off, marking-on, marking-end}
 use Rattle.cycles.proofs.mark_left.Statement.{statement}
 use Rattle.cycles.proofs.mark_left.Tie as tie
 

@@ -1,10 +1,10 @@
-use denote.Ref.{now}
 use mathlib.Core.Path.{sym, _∙_}
 use native.Mathlib.Omega.{arith}
 use borrow.Author.Needs.{needs}
 use lib.ListN.{length}
 use Rattle.cycles.specs.Pruning.{countBelow, left}
-use Rattle.cycles.proofs.Pruning.{Pruning, pruning-start, pruning-next, next-place, few-left, next-some, pruning-less, pruning-end}
+use Rattle.cycles.proofs.Leaves.{few-left}
+use Rattle.cycles.proofs.Pruning.{Pruning, pruning-start, pruning-next, next-place, next-some, pruning-less, pruning-end}
 use Rattle.cycles.proofs.prune_from.Statement.{statement}
 use Rattle.cycles.proofs.prune_from.Tie as tie
 
