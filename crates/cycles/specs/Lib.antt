@@ -1,2 +1,3 @@
 -- What the functions on the cycles of a table mean.
 pub mod Marks
+pub mod Pruning
