@@ -1,4 +1,3 @@
 -- The laws that the functions on the cycles of a table cite.
 pub mod Marks
 pub mod Marking
-pub mod Walking

@@ -1,4 +1,4 @@
-// Tables: which points are on cycles, and how long the cycles are.
+// Tables: which points are on cycles.
 use lists::set_all;
 use patterns::points_room;
 ghost use denote.Ref.{now};
@@ -6,9 +6,9 @@ ghost use mathlib.Core.Path.{_≡_};
 ghost use mathlib.Core.Bool.{true};
 ghost use mathlib.Core.List.{map};
 ghost use lib.ListN.{length};
-ghost use Rattle.patterns.specs.Table.{image, cycleFrom};
+ghost use Rattle.patterns.specs.Table.{image};
 ghost use Rattle.map_theory.specs.Iteration.{iterate};
-ghost use Rattle.cycles.specs.Marks.{MarksAsked, Images, ImagesMarked, NoneLeftOut, Far, Marked, CyclePoint};
+ghost use Rattle.cycles.specs.Marks.{MarksAsked, Images, ImagesMarked, NoneLeftOut, Far, Marked};
 
 // `out` is the table of four steps of the table `s`.
 fn four_steps(s: &[u8], out: &mut [u8])
@@ -84,18 +84,4 @@ pub fn mark_cycles(f: &[u8], marks: &mut [u8])
     }
     let mut far = points_room();
     mark_reached(f, &mut far[..f.len()], marks);
-}
-
-// The length of the cycle of `x`, which is on one.
-pub fn cycle_length(f: &[u8], x: usize) -> usize
-    requires { ⌜ CyclePoint (now f) x ⌝ }
-    ensures { λ r. ⌜ r ≡ length (cycleFrom (length (now (f .entry))) (image (now (f .entry))) x) ⌝ }
-{
-    let mut length = 1;
-    let mut y = f[x] as usize;
-    while y != x {
-        y = f[y] as usize;
-        length += 1;
-    }
-    length
 }
