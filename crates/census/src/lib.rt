@@ -11,7 +11,7 @@ ghost use Rattle.patterns.specs.Table.{image};
 ghost use Rattle.patterns.specs.Census.{longestCycle as longestOf, greatest as greatestOf};
 ghost use Rattle.tables.specs.Tables.{Table};
 ghost use Rattle.cycles.specs.Marks.{Marked};
-ghost use Rattle.census.specs.Counts.{Blank, Counts};
+ghost use Rattle.census.specs.Counts.{ClearAsked, CycleCleared, Blank, Counts};
 ghost use Rattle.census.specs.Rows.{RowsRoom, Listed, RowsOf};
 ghost use Rattle.patterns.specs.Census.{rowsOf};
 ghost use Rattle.patterns.specs.Replies.{rowOf};
@@ -24,15 +24,31 @@ pub struct Rows {
     pub rows: usize,
 }
 
-// Counts the cycles by their length, each where its leader comes: `counts[l]` for l from 1 on.
-fn count_cycles(f: &[u8], leads: &[u8], counts: &mut [u8])
-    requires { ⌜ Blank (now f) (now leads) (now counts) ⌝ }
+// Walks round the cycle of `x`, clears the marks on it, and answers its length.
+fn clear_cycle(f: &[u8], marks: &mut [u8], x: usize) -> usize
+    requires { ⌜ ClearAsked (now f) (now marks) x ⌝ }
+    ensures { λ r. ⌜ CycleCleared (now (f .entry)) (now (marks .entry)) x r (now (marks .exit)) ⌝ }
+{
+    marks[x] = 0;
+    let mut length = 1;
+    let mut y = f[x] as usize;
+    while y != x {
+        marks[y] = 0;
+        y = f[y] as usize;
+        length += 1;
+    }
+    length
+}
+
+// Counts the cycles by their length, each where its least point comes, the first that is marked: `counts[l]` for l from 1 on.
+fn count_cycles(f: &[u8], marks: &mut [u8], counts: &mut [u8])
+    requires { ⌜ Blank (now f) (now marks) (now counts) ⌝ }
     ensures { λ r. ⌜ Counts (now (f .entry)) (now (counts .exit)) ⌝ }
 {
     let mut x = 0;
     while x < f.len() {
-        if leads[x] as usize == x {
-            let l = cycles::cycle_length(f, x);
+        if marks[x] != 0 {
+            let l = clear_cycle(f, marks, x);
             counts[l] += 1;
         }
         x += 1;
@@ -87,14 +103,14 @@ fn no_rows() -> [u8; 19]
     [0u8; 19]
 }
 
-// The rows of the table `f` with the leaders of its cycles; `tallies` has a place for the count of each length.
-fn rows_of(f: &[u8], leads: &[u8], tallies: &mut [u8]) -> Rows
-    requires { ⌜ Blank (now f) (now leads) (now tallies) ⌝ }
+// The rows of the table `f` with its points on cycles marked; `tallies` has a place for the count of each length. The marks are used up.
+fn rows_of(f: &[u8], marks: &mut [u8], tallies: &mut [u8]) -> Rows
+    requires { ⌜ Blank (now f) (now marks) (now tallies) ⌝ }
     ensures { λ r. ⌜ RowsOf (now (f .entry)) r ⌝ }
 {
     let mut lengths = no_rows();
     let mut counts = no_rows();
-    count_cycles(f, leads, tallies);
+    count_cycles(f, marks, tallies);
     let rows = list_rows(tallies, &mut lengths[..19], &mut counts[..19]);
     Rows {
         lengths,
@@ -104,15 +120,13 @@ fn rows_of(f: &[u8], leads: &[u8], tallies: &mut [u8]) -> Rows
 }
 
 // The rows of the table `f` with its points on cycles marked.
-fn marked_rows(f: &[u8], marks: &[u8]) -> Rows
+fn marked_rows(f: &[u8], marks: &mut [u8]) -> Rows
     requires { ⌜ Table (now f) × Marked (now f) (now marks) ⌝ }
     ensures { λ r. ⌜ RowsOf (now (f .entry)) r ⌝ }
 {
     let n = f.len();
-    let mut leads = points_room();
     let mut tallies = no_cycles();
-    links::lead_cycles(f, marks, &mut leads[..n]);
-    rows_of(f, &leads[..n], &mut tallies[..n + 1])
+    rows_of(f, marks, &mut tallies[..n + 1])
 }
 
 // The rows of the table `f`.
@@ -123,7 +137,7 @@ pub fn cycle_rows(f: &[u8]) -> Rows
     let n = f.len();
     let mut marks = points_room();
     cycles::mark_cycles(f, &mut marks[..n]);
-    marked_rows(f, &marks[..n])
+    marked_rows(f, &mut marks[..n])
 }
 
 // The longest cycle: the greatest length that has a row.

@@ -5,4 +5,3 @@ pub mod Degrees
 pub mod Leaves
 pub mod Pruning
 pub mod Marking
-pub mod Walking

@@ -16,9 +16,3 @@ pub record MarksAsked (f marks : List ℕ) : Type 0 where
 pub record Marked (f marks : List ℕ) : Type 0 where
   pub same : length marks ≡ length f
   pub marks-are : (x : ℕ) → x < length f → getD marks x 0 ≡ cond (onCycle (length f) (image f) x) 1 0
-
--- x is a point of a table, and on a cycle
-pub record CyclePoint (f : List ℕ) (x : ℕ) : Type 0 where
-  pub table : isTable f ≡ true
-  pub here : x < length f
-  pub on-cycle : onCycle (length f) (image f) x ≡ true

@@ -1,11 +1,9 @@
-// Tables: which points are on cycles, and how long the cycles are.
+// Tables: which points are on cycles.
 use lists::set_all;
 ghost use denote.Ref.{now};
-ghost use mathlib.Core.Path.{_≡_};
 ghost use Prim.Native.Nat.{_+_, _<_};
 ghost use lib.ListN.{length};
-ghost use Rattle.patterns.specs.Table.{image, cycleFrom};
-ghost use Rattle.cycles.specs.Marks.{MarksAsked, Marked, CyclePoint};
+ghost use Rattle.cycles.specs.Marks.{MarksAsked, Marked};
 ghost use Rattle.cycles.specs.Pruning.{InDegrees, Pruned, LeftMarked};
 
 // Counts how many points go to each point.
@@ -70,18 +68,4 @@ pub fn mark_cycles(f: &[u8], marks: &mut [u8])
     count_in_degrees(f, marks);
     prune(f, marks);
     mark_left(marks);
-}
-
-// The length of the cycle of `x`, which is on one.
-pub fn cycle_length(f: &[u8], x: usize) -> usize
-    requires { ⌜ CyclePoint (now f) x ⌝ }
-    ensures { λ r. ⌜ r ≡ length (cycleFrom (length (now (f .entry))) (image (now (f .entry))) x) ⌝ }
-{
-    let mut length = 1;
-    let mut y = f[x] as usize;
-    while y != x {
-        y = f[y] as usize;
-        length += 1;
-    }
-    length
 }

@@ -21,8 +21,8 @@ mark-cycles-requires c κs =
     let p = start c .pre in
     record { table = p .table; room = length-take-le _ _ (omega (arith, p .small, c .before .points-room .ensures)); small = p .small }
 
-array-share-prefix-marks : tie.Need-array-share-prefix-marks
-array-share-prefix-marks c = marks-within (c .before .mark-cycles .ensures) _
+array-borrow-prefix-marks-2 : tie.Need-array-borrow-prefix-marks-2
+array-borrow-prefix-marks-2 c = marks-within (c .before .mark-cycles .ensures) _
 
 slice-aggregate-marked-rows : tie.Need-slice-aggregate-marked-rows
 slice-aggregate-marked-rows c = sym (marks-back (marking c .mark-cycles .ensures) _ .same)
@@ -38,7 +38,7 @@ cycle-rows-spec =
     (λ c. search needs)
     slice-aggregate-mark-cycles
     mark-cycles-requires
-    array-share-prefix-marks
+    array-borrow-prefix-marks-2
     slice-aggregate-marked-rows
     marked-rows-requires
     (λ c. search needs))

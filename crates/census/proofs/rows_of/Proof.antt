@@ -8,55 +8,47 @@ use Rattle.census.proofs.rows_of.Statement.{statement}
 use Rattle.census.proofs.rows_of.Tie as tie
 
 -- the places that the needs speak of, each named once
-abbrev start : tie.After-count-cycles → tie.Start
-start c = c .before .before .before .before .before .before .before
+abbrev start : tie.After-no-rows2 → tie.Start
+start c = c .before .before .before .before .before
+
+abbrev blank : tie.After-count-cycles → tie.After-no-rows2
+blank c = c .before .before .before
+
+abbrev counted : tie.After-list-rows-arg → tie.After-count-cycles
+counted c = c .before .before .before .before .before
 
 abbrev counting : tie.After-counts → tie.After-count-cycles
-counting c = c .before .before .before .before .before
+counting c = counted (c .before .before)
+
+abbrev asked : tie.After-count-cycles → tie.Start
+asked c = start (blank c)
 
 abbrev table : tie.After-count-cycles → List ℕ
-table c = now (start c .args .f)
-
-no-rows-requires : tie.Need-no-rows-requires
-no-rows-requires c κs = search needs
-
-no-rows-requires-2 : tie.Need-no-rows-requires-2
-no-rows-requires-2 c κs = search needs
-
-count-cycles-requires : tie.Need-count-cycles-requires
-count-cycles-requires c κs = search needs
-
-slice-aggregate-list-rows : tie.Need-slice-aggregate-list-rows
-slice-aggregate-list-rows c = search needs
-
-slice-aggregate-list-rows-2 : tie.Need-slice-aggregate-list-rows-2
-slice-aggregate-list-rows-2 c = search needs
+table c = now (asked c .args .f)
 
 list-rows-requires : tie.Need-list-rows-requires
 list-rows-requires c κs =
     let k = counting c in
-    let p = start k .pre in
+    let p = asked k .pre in
     counted-room (table k) _ (k .count-cycles .ensures) (inside (table k) (p .table)) (p .small)
-    (k .before .before .before .no-rows .ensures) (k .before .before .no-rows2 .ensures)
-
-same-length : tie.Need-same-length
-same-length c = search needs
+    (blank k .before .no-rows .ensures) (blank k .no-rows2 .ensures)
 
 returns : tie.Need-returns
 returns c =
     let k = counting (c .before .before .before) in
-    let p = start k .pre in
+    let p = asked k .pre in
     rows-listed (table k) _ (k .count-cycles .ensures) (inside (table k) (p .table)) (p .small) (c .before .before .list-rows .ensures)
 
 pub rows-of-spec : {M : Type 1} → statement M
 rows-of-spec =
     tie.close
     (tie.spec
-    no-rows-requires
-    no-rows-requires-2
-    count-cycles-requires
-    slice-aggregate-list-rows
-    slice-aggregate-list-rows-2
+    (λ c κs. search needs)
+    (λ c κs. search needs)
+    (λ c κs. search needs)
+    (λ c. search needs)
+    (λ c. search needs)
     list-rows-requires
-    same-length
+    (λ c. search needs)
+    (λ c. search needs)
     returns)
