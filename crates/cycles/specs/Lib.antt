@@ -1,3 +1,2 @@
 -- What the functions on the cycles of a table mean.
 pub mod Marks
-pub mod Pruning
