@@ -1,4 +1,4 @@
-// The map of a system: its trees in written order are the points 0, 1 and on.
+// The map of a system: its points are 0, 1 and on, in the order in which the codes of its trees have them.
 ghost use denote.Ref.{now};
 ghost use mathlib.Core.Path.{_≡_};
 ghost use mathlib.Core.Bool.{cond};
@@ -52,7 +52,7 @@ fn cycle_images(trees: &[u8], start: usize, end: usize, out: &mut [u8])
     }
 }
 
-// Writes the map of the system: its trees in written order are the points 0, 1 and on.
+// Writes the map of the system.
 pub fn map_of(sizes: &[u8], trees: &[u8], out: &mut [u8])
     requires { ⌜ MapAsked (now sizes) (now trees) (now out) ⌝ }
     ensures { λ r. ⌜ ((S : System) → Holds S (now (sizes .entry)) (now (trees .entry)) → now (out .exit) ≡ mapOf S) ⌝ }
