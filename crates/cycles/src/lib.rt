@@ -3,85 +3,94 @@ use lists::set_all;
 use patterns::points_room;
 ghost use denote.Ref.{now};
 ghost use mathlib.Core.Path.{_≡_};
-ghost use mathlib.Core.Bool.{true};
-ghost use mathlib.Core.List.{map};
+ghost use Prim.Native.Nat.{_≤_};
 ghost use lib.ListN.{length};
-ghost use Rattle.patterns.specs.Table.{image};
-ghost use Rattle.map_theory.specs.Iteration.{iterate};
-ghost use Rattle.cycles.specs.Marks.{MarksAsked, Images, ImagesMarked, NoneLeftOut, Far, Marked};
+ghost use Rattle.cycles.specs.Marks.{MarksAsked, Marked};
+ghost use Rattle.cycles.specs.Queue.{Queue};
+ghost use Rattle.cycles.specs.Pruning.{InDegrees, Pruned, LeftMarked};
 
-// `out` is the table of four steps of the table `s`.
-fn four_steps(s: &[u8], out: &mut [u8])
-    requires { ⌜ Images (now s) (now out) ⌝ }
-    ensures { λ r. ⌜ now (out .exit) ≡ map (iterate (image (now (s .entry))) 3) (now (s .entry)) ⌝ }
+// Counts how many points go to each point.
+fn count_in_degrees(f: &[u8], degrees: &mut [u8])
+    requires { ⌜ MarksAsked (now f) (now degrees) ⌝ }
+    ensures { λ r. ⌜ InDegrees (now (f .entry)) (now (degrees .exit)) ⌝ }
 {
+    set_all(degrees, 0);
     let mut x = 0;
-    while x < s.len() {
-        let y = s[x] as usize;
-        let z = s[y] as usize;
-        let w = s[z] as usize;
-        out[x] = s[w];
+    while x < f.len() {
+        let y = f[x] as usize;
+        degrees[y] += 1;
         x += 1;
     }
 }
 
-// `far` is the table of 256 steps, more than there are points.
-fn far_points(f: &[u8], work: &mut [u8], far: &mut [u8])
-    requires { ⌜ MarksAsked (now f) (now work) × (length (now far) ≡ length (now f)) ⌝ }
-    ensures { λ r. ⌜ Far (now (f .entry)) (now (far .exit)) ⌝ }
+// Lists the points of degree 0 in `queue`, and answers how many. A point is written in any case, and stays if it counts.
+fn list_leaves(degrees: &[u8], queue: &mut [u8]) -> usize
+    requires { ⌜ (length (now degrees) ≤ 200) × (length (now queue) ≡ length (now degrees)) ⌝ }
+    ensures { λ r. ⌜ Queue (now (degrees .entry)) (now (queue .exit)) r ⌝ }
 {
-    four_steps(f, work);
-    four_steps(work, far);
-    four_steps(far, work);
-    four_steps(work, far);
+    let mut len = 0;
+    let mut x = 0;
+    while x < degrees.len() {
+        queue[len] = x as u8;
+        if degrees[x] == 0 {
+            len += 1;
+        }
+        x += 1;
+    }
+    len
 }
 
-// Marks the images of all points.
-fn mark_images(far: &[u8], marks: &mut [u8])
-    requires { ⌜ Images (now far) (now marks) ⌝ }
-    ensures { λ r. ⌜ ImagesMarked (now (far .entry)) (now (marks .exit)) ⌝ }
+// Takes off the points of the queue one after another. The point that such a point goes to has one less, and joins the queue where that is 0.
+fn take_off(f: &[u8], degrees: &mut [u8], queue: &mut [u8], leaves: usize)
+    requires { ⌜ InDegrees (now f) (now degrees) × Queue (now degrees) (now queue) leaves ⌝ }
+    ensures { λ r. ⌜ Pruned (now (f .entry)) (now (degrees .exit)) ⌝ }
 {
-    set_all(marks, 0);
-    let mut x = 0;
-    while x < far.len() {
-        let y = far[x] as usize;
-        marks[y] = 1;
-        x += 1;
+    let mut len = leaves;
+    let mut i = 0;
+    while i < len {
+        let x = queue[i] as usize;
+        let y = f[x] as usize;
+        degrees[y] -= 1;
+        queue[len] = y as u8;
+        if degrees[y] == 0 {
+            len += 1;
+        }
+        i += 1;
     }
 }
 
-// Marks the points on cycles: those that are reached in many steps. The table of these steps stands in `far`.
-fn mark_reached(f: &[u8], far: &mut [u8], marks: &mut [u8])
-    requires { ⌜ MarksAsked (now f) (now marks) × (length (now far) ≡ length (now f)) ⌝ }
-    ensures { λ r. ⌜ Marked (now (f .entry)) (now (marks .exit)) ⌝ }
+// Takes off all that is not on a cycle; `queue` has a place for each point.
+fn prune(f: &[u8], degrees: &mut [u8], queue: &mut [u8])
+    requires { ⌜ InDegrees (now f) (now degrees) × (length (now queue) ≡ length (now f)) ⌝ }
+    ensures { λ r. ⌜ Pruned (now (f .entry)) (now (degrees .exit)) ⌝ }
 {
-    far_points(f, marks, far);
-    mark_images(far, marks);
+    let leaves = list_leaves(degrees, queue);
+    take_off(f, degrees, queue, leaves);
 }
 
-// Whether no mark is 0.
-fn all_marked(marks: &[u8]) -> bool
-    ensures { λ r. ⌜ (r ≡ true → NoneLeftOut (now (marks .entry))) ⌝ }
+// Turns degrees into marks: 0 for what is taken off, 1 for what is left. Both ways write, so that they differ in a value only.
+fn mark_left(marks: &mut [u8])
+    ensures { λ r. ⌜ LeftMarked (now (marks .entry)) (now (marks .exit)) ⌝ }
 {
     let mut x = 0;
     while x < marks.len() {
         if marks[x] == 0 {
-            return false;
+            marks[x] = 0;
+        } else {
+            marks[x] = 1;
         }
         x += 1;
     }
-    true
 }
 
-// `marks` tells the points on cycles, 1, from the others, 0. Where every point is an image all are on cycles.
+// `marks` tells the points on cycles, 1, from the others, 0. While points are taken off it holds the degrees.
 pub fn mark_cycles(f: &[u8], marks: &mut [u8])
     requires { ⌜ MarksAsked (now f) (now marks) ⌝ }
     ensures { λ r. ⌜ Marked (now (f .entry)) (now (marks .exit)) ⌝ }
 {
-    mark_images(f, marks);
-    if all_marked(marks) {
-        return;
-    }
-    let mut far = points_room();
-    mark_reached(f, &mut far[..f.len()], marks);
+    let n = f.len();
+    let mut queue = points_room();
+    count_in_degrees(f, marks);
+    prune(f, marks, &mut queue[..n]);
+    mark_left(marks);
 }

@@ -19,9 +19,6 @@ abbrev μ-loop : tie.MeasureT-loop
 loop-holds : tie.Need-loop-holds Inv-loop μ-loop
 loop-holds c = along-start (c .before .before .pre) (Exceeds (now (c .before .before .args .tree))) (exceeds-start (now (c .before .before .args .tree)) (c .before .before .pre .trees))
 
-shared-slice-read-q : tie.Need-shared-slice-read-q Inv-loop μ-loop
-shared-slice-read-q c = search needs
-
 cast-q : tie.Need-cast-q Inv-loop μ-loop
 cast-q c = omega (arith, c .shared-slice-known3 .given (c .before .before .loop .p))
 
@@ -30,19 +27,10 @@ add-q c =
     let n = along-next (c .before .before .loop .inv) (omega arith) in
     omega arith
 
-sub-at-most : tie.Need-sub-at-most Inv-loop μ-loop
-sub-at-most c = search needs
-
-part-at-most-start : tie.Need-part-at-most-start Inv-loop μ-loop
-part-at-most-start c = search needs
-
 part-at-most-end : tie.Need-part-at-most-end Inv-loop μ-loop
 part-at-most-end c =
     let n = along-next (c .before .before .loop .inv) (omega arith) in
     omega arith
-
-at-most-requires : tie.Need-at-most-requires Inv-loop μ-loop
-at-most-requires c κs = search needs
 
 returns : tie.Need-returns Inv-loop μ-loop
 returns c =
@@ -77,13 +65,13 @@ points-before-spec =
     Inv-loop
     μ-loop
     loop-holds
-    shared-slice-read-q
+    (λ c. search needs)
     cast-q
     add-q
-    sub-at-most
-    part-at-most-start
+    (λ c. search needs)
+    (λ c. search needs)
     part-at-most-end
-    at-most-requires
+    (λ c κs. search needs)
     returns
     loop-less
     loop-again

@@ -6,9 +6,6 @@ use borrow.Author.Needs.{needs}
 use Rattle.c_interface.proofs.lethmuok_accept.Statement.{statement}
 use Rattle.c_interface.proofs.lethmuok_accept.Tie as tie
 
-accept-requires : tie.Need-accept-requires
-accept-requires c κs = search needs
-
 reply-number-requires : tie.Need-reply-number-requires
 reply-number-requires c κs = subst Fits (sym (c .accept .ensures)) (accept-fits (now (c .before .before .args .code)))
 
@@ -16,4 +13,4 @@ returns : tie.Need-returns
 returns c = read-back (c .reply-number .ensures ∙ ap signedOf (c .before .accept .ensures)) (accept-fits (now (c .before .before .before .args .code)))
 
 pub lethmuok-accept-spec : {M : Type 1} → statement M
-lethmuok-accept-spec = tie.close (tie.spec accept-requires reply-number-requires returns)
+lethmuok-accept-spec = tie.close (tie.spec (λ c κs. search needs) reply-number-requires returns)

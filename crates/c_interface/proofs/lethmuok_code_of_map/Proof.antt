@@ -3,18 +3,12 @@ use borrow.Author.Needs.{needs}
 use Rattle.c_interface.proofs.lethmuok_code_of_map.Statement.{statement}
 use Rattle.c_interface.proofs.lethmuok_code_of_map.Tie as tie
 
-code-of-map-requires : tie.Need-code-of-map-requires
-code-of-map-requires c κs = search needs
-
 reply-number-requires : tie.Need-reply-number-requires
 reply-number-requires c κs = replied-fits (c .before .before .before .before .before .before .good .1 .0 .1) (c .before .before .code-of-map .ensures)
-
-same-length : tie.Need-same-length
-same-length c = search needs
 
 returns : tie.Need-returns
 returns c = reported (c .before .before .before .before .before .before .before .good .1 .0 .1) (c .before .before .before .code-of-map .ensures) (c .reply-number .ensures)
 
 pub lethmuok-code-of-map-spec : {M : Type 1} → statement M
 lethmuok-code-of-map-spec =
-    tie.close (tie.spec code-of-map-requires reply-number-requires same-length returns)
+    tie.close (tie.spec (λ c κs. search needs) reply-number-requires (λ c. search needs) returns)

@@ -3,17 +3,11 @@ use borrow.Author.Needs.{needs}
 use Rattle.c_interface.proofs.lethmuok_first.Statement.{statement}
 use Rattle.c_interface.proofs.lethmuok_first.Tie as tie
 
-first-requires : tie.Need-first-requires
-first-requires c κs = search needs
-
 reply-number-requires : tie.Need-reply-number-requires
 reply-number-requires c κs = replied-fits (c .before .before .before .before .before .good .1 .0 .1) (c .before .before .first .ensures)
-
-same-length : tie.Need-same-length
-same-length c = search needs
 
 returns : tie.Need-returns
 returns c = reported (c .before .before .before .before .before .before .good .1 .0 .1) (c .before .before .before .first .ensures) (c .reply-number .ensures)
 
 pub lethmuok-first-spec : {M : Type 1} → statement M
-lethmuok-first-spec = tie.close (tie.spec first-requires reply-number-requires same-length returns)
+lethmuok-first-spec = tie.close (tie.spec (λ c κs. search needs) reply-number-requires (λ c. search needs) returns)

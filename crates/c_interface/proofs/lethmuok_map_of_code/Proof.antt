@@ -3,18 +3,12 @@ use borrow.Author.Needs.{needs}
 use Rattle.c_interface.proofs.lethmuok_map_of_code.Statement.{statement}
 use Rattle.c_interface.proofs.lethmuok_map_of_code.Tie as tie
 
-map-of-code-requires : tie.Need-map-of-code-requires
-map-of-code-requires c κs = search needs
-
 reply-number-requires : tie.Need-reply-number-requires
 reply-number-requires c κs = replied-fits (c .before .before .before .before .before .before .good .1 .0 .1) (c .before .before .map-of-code .ensures)
-
-same-length : tie.Need-same-length
-same-length c = search needs
 
 returns : tie.Need-returns
 returns c = reported (c .before .before .before .before .before .before .before .good .1 .0 .1) (c .before .before .before .map-of-code .ensures) (c .reply-number .ensures)
 
 pub lethmuok-map-of-code-spec : {M : Type 1} → statement M
 lethmuok-map-of-code-spec =
-    tie.close (tie.spec map-of-code-requires reply-number-requires same-length returns)
+    tie.close (tie.spec (λ c κs. search needs) reply-number-requires (λ c. search needs) returns)

@@ -13,17 +13,8 @@ Inv-loop tallies lengths₀ counts₀ top rows₀ l₀ lengths counts rows l = R
 abbrev μ-loop : tie.MeasureT-loop
 μ-loop tallies lengths₀ counts₀ top rows₀ l₀ lengths counts rows l = length tallies - l
 
-sub-top : tie.Need-sub-top Inv-loop μ-loop
-sub-top c = search needs
-
 loop-holds : tie.Need-loop-holds Inv-loop μ-loop
 loop-holds c = rows-start (c .pre)
-
-shared-slice-read-count : tie.Need-shared-slice-read-count Inv-loop μ-loop
-shared-slice-read-count c = search needs
-
-cast-lengths : tie.Need-cast-lengths Inv-loop μ-loop
-cast-lengths c = search needs
 
 slice-write-lengths : tie.Need-slice-write-lengths Inv-loop μ-loop
 slice-write-lengths c = (rows-room (c .before .before .before .before .pre) (c .before .before .before .loop .inv) (omega arith) (c .if1 .taken)) .0
@@ -35,12 +26,6 @@ add-rows : tie.Need-add-rows Inv-loop μ-loop
 add-rows c =
     let b = (rows-room (c .before .before .before .before .pre) (c .before .before .before .loop .inv) (omega arith) (c .if1 .taken)) .0 in
     omega arith
-
-add-l : tie.Need-add-l Inv-loop μ-loop
-add-l c = search needs
-
-loop-less : tie.Need-loop-less Inv-loop μ-loop
-loop-less c = search needs
 
 loop-again : tie.Need-loop-again Inv-loop μ-loop
 loop-again c =
@@ -66,15 +51,15 @@ list-rows-spec =
     (tie.spec
     Inv-loop
     μ-loop
-    sub-top
+    (λ c. search needs)
     loop-holds
-    shared-slice-read-count
-    cast-lengths
+    (λ c. search needs)
+    (λ c. search needs)
     slice-write-lengths
     slice-write-counts
     add-rows
-    add-l
-    loop-less
+    (λ c. search needs)
+    (λ c. search needs)
     loop-again
     same-length
     same-length-2

@@ -20,9 +20,6 @@ array-share-prefix-lengths c = within (c .before)
 slice-aggregate-greatest : tie.Need-slice-aggregate-greatest
 slice-aggregate-greatest c = sym (length-take-le _ _ (within (c .before .before)))
 
-greatest-requires : tie.Need-greatest-requires
-greatest-requires c κs = search needs
-
 returns : tie.Need-returns
 returns c f w =
     let rows = c .before .before .before .args .rows in
@@ -31,4 +28,4 @@ returns c f w =
     c .greatest .ensures ∙ rows-longest rows l k w
 
 pub longest-spec : {M : Type 1} → statement M
-longest-spec = tie.close (tie.spec array-share-prefix-lengths slice-aggregate-greatest greatest-requires returns)
+longest-spec = tie.close (tie.spec array-share-prefix-lengths slice-aggregate-greatest (λ c κs. search needs) returns)

@@ -31,12 +31,6 @@ slice-write-counts c =
     let same = counts-same (c .before .before .before .loop .inv) (search needs) (search needs) in
     omega (arith, c .before .before .before .loop .inv .counts-room)
 
-add-i : tie.Need-add-i Inv-loop μ-loop
-add-i c = search needs
-
-loop-less : tie.Need-loop-less Inv-loop μ-loop
-loop-less c = search needs
-
 loop-again : tie.Need-loop-again Inv-loop μ-loop
 loop-again c = filling-next (c .before .before .before .loop .inv) (search needs) (search needs) (omega arith)
 
@@ -60,8 +54,8 @@ put-columns-spec =
     slice-write-lengths
     element-copy-out-counts
     slice-write-counts
-    add-i
-    loop-less
+    (λ c. search needs)
+    (λ c. search needs)
     loop-again
     same-length
     same-length-2

@@ -35,14 +35,6 @@ returns c =
     let a = c .before .before .before .args in
     sym (lex-longer (now (a .s)) (now (a .t)) (l .i) (omega arith) (omega arith)) ∙ l .inv .rest
 
--- src/lib.rt:24:17
-shared-slice-read-x : tie.Need-shared-slice-read-x Inv-loop μ-loop
-shared-slice-read-x c = search needs
-
--- src/lib.rt:25:17
-shared-slice-read-y : tie.Need-shared-slice-read-y Inv-loop μ-loop
-shared-slice-read-y c = search needs
-
 -- src/lib.rt:27:13
 returns-2 : tie.Need-returns-2 Inv-loop μ-loop
 returns-2 c =
@@ -56,14 +48,6 @@ returns-3 c =
     let l = c .before .before .before .before .before .before .loop in
     let a = c .before .before .before .before .before .before .before .args in
     sym (lex-greater (now (a .s)) (now (a .t)) (l .i) (omega arith) (omega arith) (omega arith)) ∙ l .inv .rest
-
--- src/lib.rt:32:9
-add-i : tie.Need-add-i Inv-loop μ-loop
-add-i c = search needs
-
--- src/lib.rt:20:5
-loop-less : tie.Need-loop-less Inv-loop μ-loop
-loop-less c = search needs
 
 -- src/lib.rt:20:5
 loop-again : tie.Need-loop-again Inv-loop μ-loop
@@ -98,12 +82,12 @@ compare-spec =
     μ-loop
     loop-holds
     returns
-    shared-slice-read-x
-    shared-slice-read-y
+    (λ c. search needs)
+    (λ c. search needs)
     returns-2
     returns-3
-    add-i
-    loop-less
+    (λ c. search needs)
+    (λ c. search needs)
     loop-again
     returns-4
     returns-5)

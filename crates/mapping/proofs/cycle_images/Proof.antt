@@ -34,9 +34,6 @@ add-q c =
     let l = c .before .before .loop in
     omega (arith, component-bounds (c .before .before .before .before .before .pre) (l .inv .0) (l .inv .1) (omega arith))
 
-root-image-requires : tie.Need-root-image-requires Inv-loop μ-loop
-root-image-requires c κs = search needs
-
 cast-out : tie.Need-cast-out Inv-loop μ-loop
 cast-out c =
     let s = c .before .before .before .before .before .before in
@@ -89,7 +86,7 @@ cycle-images-spec =
     shared-slice-read-q
     cast-q
     add-q
-    root-image-requires
+    (λ c κs. search needs)
     cast-out
     slice-write-out
     tree-images-requires

@@ -4,12 +4,6 @@ use borrow.Author.Needs.{needs}
 use Rattle.matching.proofs.as_isomorphism.Statement.{statement}
 use Rattle.matching.proofs.as_isomorphism.Tie as tie
 
-enum-known-reply : tie.Need-enum-known-reply
-enum-known-reply c = search needs
-
-enum-known-reply-2 : tie.Need-enum-known-reply-2
-enum-known-reply-2 c = search needs
-
 returns : tie.Need-returns
 returns c = sym (ap answerOf (c .before .reply .given .1))
 
@@ -17,4 +11,4 @@ returns-2 : tie.Need-returns-2
 returns-2 c = sym (ap answerOf (c .before .reply2 .given .1))
 
 pub as-isomorphism-spec : {M : Type 1} → statement M
-as-isomorphism-spec = tie.close (tie.spec enum-known-reply enum-known-reply-2 returns returns-2)
+as-isomorphism-spec = tie.close (tie.spec (λ c. search needs) (λ c. search needs) returns returns-2)

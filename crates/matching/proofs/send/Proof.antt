@@ -16,9 +16,6 @@ abbrev μ-loop : tie.MeasureT-loop
 loop-holds : tie.Need-loop-holds Inv-loop μ-loop
 loop-holds c = sending-start (c .pre .0) _ (c .pre .1)
 
-shared-slice-read-x : tie.Need-shared-slice-read-x Inv-loop μ-loop
-shared-slice-read-x c = search needs
-
 cast-x : tie.Need-cast-x Inv-loop μ-loop
 cast-x c = omega (arith, c .shared-slice-known .given (c .before .before .loop .j))
 
@@ -27,12 +24,6 @@ shared-slice-read-r c = omega (arith, c .before .before .before .loop .inv .matc
 
 slice-write-r : tie.Need-slice-write-r Inv-loop μ-loop
 slice-write-r c = sending-inside (c .before .before .before .loop .inv) (omega arith)
-
-add-j : tie.Need-add-j Inv-loop μ-loop
-add-j c = search needs
-
-loop-less : tie.Need-loop-less Inv-loop μ-loop
-loop-less c = search needs
 
 loop-again : tie.Need-loop-again Inv-loop μ-loop
 loop-again c = sending-next (c .before .before .before .loop .inv) (omega arith)
@@ -50,12 +41,12 @@ send-spec =
     Inv-loop
     μ-loop
     loop-holds
-    shared-slice-read-x
+    (λ c. search needs)
     cast-x
     shared-slice-read-r
     slice-write-r
-    add-j
-    loop-less
+    (λ c. search needs)
+    (λ c. search needs)
     loop-again
     same-length
     returns)

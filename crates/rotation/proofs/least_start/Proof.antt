@@ -16,9 +16,6 @@ Inv-loop s best₀ p₀ best p = Along s p (Best best)
 abbrev μ-loop : tie.MeasureT-loop
 μ-loop s best₀ p₀ best p = length s - p
 
-has-least-rotation-requires : tie.Need-has-least-rotation-requires Inv-loop μ-loop
-has-least-rotation-requires c κs = search needs
-
 returns : tie.Need-returns Inv-loop μ-loop
 returns c =
     let r = c .before .has-least-rotation in
@@ -31,9 +28,6 @@ loop-holds c =
 
 at-most-between-requires : tie.Need-at-most-between-requires Inv-loop μ-loop
 at-most-between-requires c κs = (best-within (c .before .loop .inv), omega arith)
-
-shared-slice-read-p : tie.Need-shared-slice-read-p Inv-loop μ-loop
-shared-slice-read-p c = search needs
 
 cast-p : tie.Need-cast-p Inv-loop μ-loop
 cast-p c = omega (arith, c .shared-slice-known2 .given (c .before .before .before .before .loop .p))
@@ -67,11 +61,11 @@ least-start-spec =
     (tie.spec
     Inv-loop
     μ-loop
-    has-least-rotation-requires
+    (λ c κs. search needs)
     returns
     loop-holds
     at-most-between-requires
-    shared-slice-read-p
+    (λ c. search needs)
     cast-p
     add-p
     loop-less

@@ -7,22 +7,10 @@ use borrow.Author.Needs.{needs}
 use Rattle.size_lists.proofs.fill.Statement.{statement}
 use Rattle.size_lists.proofs.fill.Tie as tie
 
-copy-requires : tie.Need-copy-requires
-copy-requires c κs = search needs
-
-same-length : tie.Need-same-length
-same-length c = search needs
-
 returns : tie.Need-returns
 returns c =
     let a = c .before .before .before .before .before .before .before .args in
     fill-copied (now (a .d)) (now (a .out)) _ (omega arith) (c .before .before .copy .ensures .1)
-
-set-all-requires : tie.Need-set-all-requires
-set-all-requires c κs = search needs
-
-same-length-2 : tie.Need-same-length-2
-same-length-2 c = search needs
 
 returns-2 : tie.Need-returns-2
 returns-2 c =
@@ -31,4 +19,4 @@ returns-2 c =
 
 pub fill-spec : {M : Type 1} → statement M
 fill-spec =
-    tie.close (tie.spec copy-requires same-length returns set-all-requires same-length-2 returns-2)
+    tie.close (tie.spec (λ c κs. search needs) (λ c. search needs) returns (λ c κs. search needs) (λ c. search needs) returns-2)

@@ -20,32 +20,14 @@ loop-holds c =
     let a = start .args in
     filling-start (now (a .d)) (now (a .sizes)) (now (a .trees)) (start .pre)
 
-shared-slice-read-end : tie.Need-shared-slice-read-end Inv-loop μ-loop
-shared-slice-read-end c = search needs
-
 cast-end : tie.Need-cast-end Inv-loop μ-loop
 cast-end c = omega (arith, c .shared-slice-known3 .given (c .before .before .loop .i))
 
 add-end : tie.Need-add-end Inv-loop μ-loop
 add-end c = omega (arith, filling-fits (c .before .before .loop .inv) (omega arith))
 
-sub-fill : tie.Need-sub-fill Inv-loop μ-loop
-sub-fill c = search needs
-
-part-fill-start : tie.Need-part-fill-start Inv-loop μ-loop
-part-fill-start c = search needs
-
 part-fill-end : tie.Need-part-fill-end Inv-loop μ-loop
 part-fill-end c = filling-fits (c .before .before .loop .inv) (omega arith)
-
-fill-requires : tie.Need-fill-requires Inv-loop μ-loop
-fill-requires c κs = search needs
-
-add-i : tie.Need-add-i Inv-loop μ-loop
-add-i c = search needs
-
-loop-less : tie.Need-loop-less Inv-loop μ-loop
-loop-less c = search needs
 
 loop-again : tie.Need-loop-again Inv-loop μ-loop
 loop-again c = filling-next (c .before .before .before .before .before .before .loop .inv) _ _ (omega arith) refl (c .before .before .fill .ensures)
@@ -63,15 +45,15 @@ fill-right-spec =
     Inv-loop
     μ-loop
     loop-holds
-    shared-slice-read-end
+    (λ c. search needs)
     cast-end
     add-end
-    sub-fill
-    part-fill-start
+    (λ c. search needs)
+    (λ c. search needs)
     part-fill-end
-    fill-requires
-    add-i
-    loop-less
+    (λ c κs. search needs)
+    (λ c. search needs)
+    (λ c. search needs)
     loop-again
     same-length
     returns)

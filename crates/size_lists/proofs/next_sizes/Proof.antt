@@ -18,17 +18,8 @@ returns c =
     let start = c .before in
     next-short (now (start .args .sizes)) (start .args .m) (start .pre .within) (omega arith)
 
-slice-read-a : tie.Need-slice-read-a Inv-loop μ-loop
-slice-read-a c = search needs
-
 cast-a : tie.Need-cast-a Inv-loop μ-loop
 cast-a c = omega (arith, c .slice-known .given (c .before .before .args .m - 2))
-
-add-b : tie.Need-add-b Inv-loop μ-loop
-add-b c = search needs
-
-slice-read-b : tie.Need-slice-read-b Inv-loop μ-loop
-slice-read-b c = search needs
 
 cast-b : tie.Need-cast-b Inv-loop μ-loop
 cast-b c = omega (arith, c .slice-known2 .given (c .before .before .before .args .m - 2 + 1))
@@ -50,35 +41,8 @@ loop-holds c =
 add-loop : tie.Need-add-loop Inv-loop μ-loop
 add-loop c = omega (arith, c .before .slice-known2 .given (c .before .before .before .before .args .m - 2))
 
-cast-sizes : tie.Need-cast-sizes Inv-loop μ-loop
-cast-sizes c = search needs
-
-slice-write-sizes : tie.Need-slice-write-sizes Inv-loop μ-loop
-slice-write-sizes c = search needs
-
-sub-left : tie.Need-sub-left Inv-loop μ-loop
-sub-left c = search needs
-
-add-i : tie.Need-add-i Inv-loop μ-loop
-add-i c = search needs
-
-loop-less : tie.Need-loop-less Inv-loop μ-loop
-loop-less c = search needs
-
 loop-again : tie.Need-loop-again Inv-loop μ-loop
 loop-again c = growing-next (c .before .loop .inv) (omega arith)
-
-cast-sizes-2 : tie.Need-cast-sizes-2 Inv-loop μ-loop
-cast-sizes-2 c = search needs
-
-slice-write-sizes-2 : tie.Need-slice-write-sizes-2 Inv-loop μ-loop
-slice-write-sizes-2 c = search needs
-
-add-result : tie.Need-add-result Inv-loop μ-loop
-add-result c = search needs
-
-same-length : tie.Need-same-length Inv-loop μ-loop
-same-length c = search needs
 
 returns-2 : tie.Need-returns-2 Inv-loop μ-loop
 returns-2 c = growing-end (c .before .loop .inv) (omega arith)
@@ -90,23 +54,23 @@ next-sizes-spec =
     Inv-loop
     μ-loop
     returns
-    slice-read-a
+    (λ c. search needs)
     cast-a
-    add-b
-    slice-read-b
+    (λ c. search needs)
+    (λ c. search needs)
     cast-b
     add-least
     add-left
     loop-holds
     add-loop
-    cast-sizes
-    slice-write-sizes
-    sub-left
-    add-i
-    loop-less
+    (λ c. search needs)
+    (λ c. search needs)
+    (λ c. search needs)
+    (λ c. search needs)
+    (λ c. search needs)
     loop-again
-    cast-sizes-2
-    slice-write-sizes-2
-    add-result
-    same-length
+    (λ c. search needs)
+    (λ c. search needs)
+    (λ c. search needs)
+    (λ c. search needs)
     returns-2)

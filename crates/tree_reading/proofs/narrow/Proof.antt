@@ -19,26 +19,8 @@ abbrev μ-loop : tie.MeasureT-loop
 loop-holds : tie.Need-loop-holds Inv-loop μ-loop
 loop-holds c = (omega arith, refl, narrow-start (now (c .args .s)) (now (c .args .out)) (c .args .at))
 
-mul-out : tie.Need-mul-out Inv-loop μ-loop
-mul-out c = search needs
-
-shared-slice-read-out : tie.Need-shared-slice-read-out Inv-loop μ-loop
-shared-slice-read-out c = search needs
-
 cast-out : tie.Need-cast-out Inv-loop μ-loop
 cast-out c = omega (arith, c .before .before .before .pre .1 (c .before .before .loop .i))
-
-add-out : tie.Need-add-out Inv-loop μ-loop
-add-out c = search needs
-
-slice-write-out : tie.Need-slice-write-out Inv-loop μ-loop
-slice-write-out c = search needs
-
-add-i : tie.Need-add-i Inv-loop μ-loop
-add-i c = search needs
-
-loop-less : tie.Need-loop-less Inv-loop μ-loop
-loop-less c = search needs
 
 loop-again : tie.Need-loop-again Inv-loop μ-loop
 loop-again c =
@@ -47,9 +29,6 @@ loop-again c =
     let e : l .out ≡ placed (a .at) (take (l .i) (now (a .s))) (now (a .out)) = l .inv .2 in
     let stored = ap (λ o. set o (a .at + l .i) (getD (now (a .s)) (l .i) 0)) e in
     (omega arith, simp length-set (l .inv .1), stored ∙ narrow-next (now (a .s)) (now (a .out)) (a .at) (l .i) (omega arith) (omega arith))
-
-same-length : tie.Need-same-length Inv-loop μ-loop
-same-length c = search needs
 
 returns : tie.Need-returns Inv-loop μ-loop
 returns c =
@@ -64,13 +43,13 @@ narrow-spec =
     Inv-loop
     μ-loop
     loop-holds
-    mul-out
-    shared-slice-read-out
+    (λ c. search needs)
+    (λ c. search needs)
     cast-out
-    add-out
-    slice-write-out
-    add-i
-    loop-less
+    (λ c. search needs)
+    (λ c. search needs)
+    (λ c. search needs)
+    (λ c. search needs)
     loop-again
-    same-length
+    (λ c. search needs)
     returns)
