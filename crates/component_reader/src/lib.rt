@@ -1,7 +1,7 @@
 // The component reader [document 01, "Refusing", last paragraph]: it shows the bytes of one component at a time, as a part of the code that it was
 // given. A reader is a code and a position. The functions over it are thin: what they answer is found by functions on a slice and a number.
-use component_parts::part_of;
-use component_parts::stretch_of;
+pub use component_parts::part_of;
+pub use component_parts::stretch_of;
 use patterns::Stretch;
 ghost use denote.Ref.{now};
 ghost use mathlib.Core.Path.{_≡_};
