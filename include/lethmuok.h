@@ -63,7 +63,7 @@ int64_t lethmuok_map_of_code(const uint8_t *code, size_t code_len, uint8_t *out,
 /* Writes a table r with r(f(x)) = g(r(x)) for every point x, in which every point stands once; answers the number of points, or LETHMUOK_NONE. */
 int64_t lethmuok_isomorphism(const uint8_t *f, size_t f_len, const uint8_t *g, size_t g_len, uint8_t *out, size_t out_len);
 
-/* Writes each cycle length that occurs into `lengths`, once, and the number of such cycles beside it into `counts`; answers how many lengths occur. */
+/* Writes the cycle lengths that occur into `lengths`, rising, and the number of cycles of each beside it into `counts`; answers how many lengths occur. */
 int64_t lethmuok_census(const uint8_t *table, size_t n, uint8_t *lengths, size_t lengths_len, uint8_t *counts, size_t counts_len);
 
 /* The greatest distance of a point of a map from its cycle. */

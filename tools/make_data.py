@@ -139,6 +139,11 @@ def examples():
     lines += [refused([0, 1], 5), refused([1, 0], 5), refused([1, 1, 1, 1, 9], 7)]
     lines += [refused([200, 1], 3), refused([201, 1], 1)]
     lines.append(given(census([1, 0, 2, 2]), "census", 2, [1, 2, 1, 1, 2, 1]))
+    # paper 1 of document 02: rows by rising length, in whatever order the cycles are met; no points; 200 points on cycles of 19 lengths
+    lines.append(given(census([1, 2, 0, 4, 3, 5]), "census", 3, [0, 3, 1, 1, 2, 1, 3, 1]))
+    lines.append(given(census([]), "census", 0, [0, 0]))
+    lengths = [29, *range(18, 0, -1)]
+    lines.append(given(census(joined(*map(cycle_map, lengths))), "census", 19, [0, 29] + [x for k in sorted(lengths) for x in (k, 1)]))
     # the list of 3 points, and what would break under the plausible and false readings
     three = [[3, 3, 1, 1, 1, 1, 1, 1], [3, 2, 1, 1, 2, 1, 1], [3, 2, 1, 1, 1, 2, 1], [3, 1, 3, 1, 1, 1], [3, 1, 1, 3, 2, 1], [3, 1, 1, 3, 1, 1], [3, 1, 2, 1, 2, 1]]
     lines.append(given(first(3, WIDE), "length", 8, three[0]))
@@ -375,6 +380,12 @@ def steps():
     return [successor(code) for code in codes]
 
 
+def censuses():
+    """The census of each map, and of a shuffled copy, in which the cycles are met in another order."""
+    numbers = Numbers(7)
+    return [census(table) for _, table in shapes()] + [census(renamed(table, numbers.shuffled(200))) for _, table in shapes()]
+
+
 def codes_of_maps():
     lines = []
     numbers = Numbers(9)
@@ -420,7 +431,7 @@ def main():
     os.makedirs(MADE, exist_ok=True)
     files = [(f"listing_{n}", [[line] for line in plain_listing.listing(n)]) for n in range(9)]
     files += [("examples", examples()), ("damaged", damaged()), ("damaged_long", damaged_long()), ("reordered", reordered()), ("hostile", hostile())]
-    files += [("rooms", rooms()), ("steps", steps()), ("codes", codes_of_maps()), ("census", [census(table) for _, table in shapes()])]
+    files += [("rooms", rooms()), ("steps", steps()), ("codes", codes_of_maps()), ("census", censuses())]
     files += [("components", components()), ("pairs", pairs())]
     other = sum(not save(name, lines) for name, lines in files)
     print(f"{len(files)} files in {os.path.relpath(MADE)}, {other} not as in crates/checks/data")

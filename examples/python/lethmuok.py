@@ -121,12 +121,12 @@ def isomorphism(f, g):
 
 
 def census(table):
-    """The number of cycles of each length that occurs, the height, and the longest cycle."""
+    """A row for each cycle length that occurs, rising, with its number of cycles; the height; and the longest cycle."""
     lengths, counts = _room(_MAX_ENTRIES), _room(_MAX_ENTRIES)
     given = _given(table)
     entries = _call("lethmuok_census", given, lengths, counts)
-    cycles = dict(zip(lengths[:entries], counts[:entries]))
-    return cycles, _call("lethmuok_height", given), _call("lethmuok_longest_cycle", given)
+    rows = list(zip(lengths[:entries], counts[:entries]))
+    return rows, _call("lethmuok_height", given), _call("lethmuok_longest_cycle", given)
 
 
 def component(code, position):

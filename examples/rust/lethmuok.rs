@@ -105,7 +105,7 @@ pub fn isomorphism(f: &[u8], g: &[u8], out: &mut [u8]) -> Reply {
     unsafe { c::lethmuok_isomorphism(f.as_ptr(), f.len(), g.as_ptr(), g.len(), out.as_mut_ptr(), out.len()) }.into()
 }
 
-/// Writes each cycle length that occurs into `lengths`, and the number of such cycles beside it into `counts`: how many lengths occur.
+/// Writes the cycle lengths that occur into `lengths`, rising, and the number of cycles of each beside it into `counts`: how many lengths occur.
 pub fn census(table: &[u8], lengths: &mut [u8], counts: &mut [u8]) -> Reply {
     unsafe {
         c::lethmuok_census(table.as_ptr(), table.len(), lengths.as_mut_ptr(), lengths.len(), counts.as_mut_ptr(), counts.len())

@@ -14,15 +14,12 @@ use Rattle.lists.specs.Select.{total, range}
 use Rattle.lists.proofs.Tests.{by-test}
 use Rattle.patterns.specs.declared.Refusal.the-variants.{Count, Image, Room}
 use Rattle.patterns.specs.Table.{image, isTable, onCycle}
-use Rattle.patterns.specs.Census.{greatest, Row, stepsToCycle, height, longestCycle, cycleLengths}
-use Rattle.patterns.specs.Reading.{Result, done}
-use Rattle.patterns.specs.Replies.{Answer, length-is, CensusAnswer}
-use Rattle.patterns.specs.Entry.{checkedTable, answer, Counted, table-refused, counted, censusAnswered}
+use Rattle.patterns.specs.Census.{greatest, Row, rowsOf, stepsToCycle, height, longestCycle, cycleLengths, censusRows}
+use Rattle.patterns.specs.Replies.{Answer, length-is}
+use Rattle.patterns.specs.Entry.{checkedTable, answer, answered, censusOf, rowsFound, ColumnsReplied, heightOf, longestOf}
 use Rattle.map_theory.proofs.Isomorphisms.{table-below}
-use Rattle.map_theory.proofs.CensusTheory.{lengths-add-up, cycle-points-bound, census-fits}
-use Rattle.patterns.specs.Census.{rowsOf}
-use Rattle.patterns.specs.Entry.{entriesOf, ColumnsReplied, heightOf, longestOf}
-use Rattle.tables.proofs.Tables.{checked-table}
+use Rattle.map_theory.proofs.CensusTheory.{lengths-add-up, cycle-points-bound}
+use Rattle.map_theory.proofs.Occurring.{census-fits}
 use Rattle.patterns.specs.SignedReplies.{signedOf, CensusReported}
 use Rattle.c_interface.proofs.Fitting.{Fits, read-back, refused-fits, small-fits}
 
@@ -70,22 +67,27 @@ module _ (f : List ℕ) where
   pub longest-fits : Fits (longestOf f)
   longest-fits = table-fits (λ f. longestCycle (length f) (image f)) longest-few
 
-  rows-few : (rows : List Row) → checkedTable f ≡ done f → Counted f (done rows) → length rows ≤ 19
-  rows-few rows e (counted d c) =
-      let t = checked-table f e in
-      census-fits (length f) (image f) (table-below (length f) f refl (t .table)) rows c (t .small)
+  rows-few : isTable f ≡ true → length f ≤ 200 → length (censusRows (length f) (image f)) ≤ 19
+  rows-few t h = census-fits (length f) (image f) (table-below (length f) f refl t) h
+
+  -- the number of rows
+  rows-fit : (before : List Row) → Fits (answered (rowsFound f) before)
+  unfolding censusOf checkedTable
+  rows-fit before =
+      by-test (ltb 200 (length f))
+      (λ t. rw t (refused-fits Count))
+      (λ t.
+      by-test (isTable f)
+      (λ u. rw (t, u) (
+      by-test (leb (length (censusRows (length f) (image f))) (length before))
+      (λ v. rw v (let k = rows-few u (ltb-false 200 (length f) t) in small-fits (length (censusRows (length f) (image f))) (omega arith)))
+      (λ v. rw v (refused-fits Room))))
+      (λ u. rw (t, u) (refused-fits Image)))
 
 -- the rows in two columns
 module _ {f lengths counts lengths′ counts′ : List ℕ} {a : Answer} (p : ColumnsReplied f lengths counts a lengths′ counts′) where
   pub columns-fit : Fits a
-  columns-fit = subst Fits (sym (p .reply)) (of (p .census) (p .replied .rows .found) (p .replied .rows .isCensus) (p .replied .rows .reply))
-    where
-      of : (q : CensusAnswer) (o : Result (List Row)) → Counted f o → q ≡ censusAnswered f o (rowsOf lengths counts) → Fits (entriesOf q)
-      of q o (table-refused {c = c} e) r = rw r (refused-fits c)
-      of q o (counted {rows = rows} e c) r =
-          by-test (leb (length rows) (length (rowsOf lengths counts)))
-          (λ t. rw (r, t) (let k = rows-few f rows e (counted e c) in small-fits (length rows) (omega arith)))
-          (λ t. rw (r, t) (refused-fits Room))
+  columns-fit = subst Fits (sym (p .reply)) (rows-fit f (rowsOf lengths counts))
 
   pub census-reported : {z : ℤ} → z ≡ signedOf a → CensusReported f lengths counts (toZ w64 (ofZ w64 z)) lengths′ counts′
-  census-reported e = record { reply = p .census; number = read-back e columns-fit ∙ ap signedOf (p .reply); replied = p .replied }
+  census-reported e = record { number = read-back e columns-fit ∙ ap signedOf (p .reply); output = p .output }

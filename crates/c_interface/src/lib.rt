@@ -58,7 +58,7 @@ pub extern "C" fn lethmuok_isomorphism(f: &[u8], g: &[u8], out: &mut [u8]) -> i6
     isomorphism_number(engine::isomorphism(f, g, out))
 }
 
-// Writes the census of the map `table`, cycle lengths and numbers of cycles beside each other.
+// Writes the census of the map `table`: the cycle lengths that occur, rising, and their numbers of cycles beside them.
 #[no_mangle]
 pub extern "C" fn lethmuok_census(table: &[u8], lengths: &mut [u8], counts: &mut [u8]) -> i64
     ensures { λ r. ⌜ CensusReported (now (table .entry)) (now (lengths .entry)) (now (counts .entry)) r (now (lengths .exit)) (now (counts .exit)) ⌝ }

@@ -12,13 +12,7 @@ use Rattle.census.specs.declared.Rows.{Rows}
 use Rattle.patterns.specs.Census.{rowsOf}
 use Rattle.patterns.specs.Replies.{rowOf}
 use Rattle.census.specs.Entries.{rowIn}
-use Rattle.census.proofs.CensusRows.{rows-length}
-
-pub rows-append : (a b c d : List ℕ) → length a ≡ length b → rowsOf (a ++ c) (b ++ d) ≡ rowsOf a b ++ rowsOf c d
-rows-append [] [] c d e = refl
-rows-append [] (y ∷ b) c d e = absurd (omega arith)
-rows-append (x ∷ a) [] c d e = absurd (omega arith)
-rows-append (x ∷ a) (y ∷ b) c d e = ap (λ l. record { cycleLength = x; cycles = y } ∷ l) (rows-append a b c d (omega arith))
+use Rattle.map_theory.proofs.SideBySide.{rows-length, rows-append}
 
 map-set : (l : List Entry) (i : ℕ) (e : Entry) → map rowOf (set l i e) ≡ set (map rowOf l) i (rowOf e)
 map-set [] i e = refl

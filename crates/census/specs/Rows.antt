@@ -7,7 +7,7 @@ use lib.Dec.{eqb}
 use lib.ListN.{length, getD, take, drop}
 use Rattle.lists.specs.Select.{keep, range}
 use Rattle.patterns.specs.Table.{image}
-use Rattle.patterns.specs.Census.{Row, rowsOf, Census}
+use Rattle.patterns.specs.Census.{Row, rowsOf, censusRows}
 use Rattle.census.specs.declared.Rows.{Rows}
 
 -- the numbers from 1 on at which the list of counts is not 0
@@ -31,7 +31,7 @@ pub record Listed (tallies lengths₀ counts₀ : List ℕ) (rows : ℕ) (length
 abbrev pub rowsIn : Rows → List Row
 rowsIn r = rowsOf (take (r .rows) (r .lengths)) (take (r .rows) (r .counts))
 
--- r holds the rows of the table f
+-- r holds the rows of the census of the table f
 pub record RowsOf (f : List ℕ) (r : Rows) : Type 0 where
-  pub isCensus : Census (length f) (image f) (rowsIn r)
+  pub rows-are : rowsIn r ≡ censusRows (length f) (image f)
   pub few : r .rows ≤ 19

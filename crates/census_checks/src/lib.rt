@@ -1,5 +1,5 @@
-// Compares both entries of the census, the list of structs and the two columns, with the cases of the census [tools/README.md]. The cases of other entries are passed
-// over: crate `entry_checks` has them. Document 01 leaves the order of the rows open, so the rows are compared as a table that has at each length of a cycle how many cycles have it.
+// Compares both entries of the census, the list of structs and the two columns, with the cases of the census [tools/README.md], row by row. The cases of other entries
+// are passed over: crate `entry_checks` has them.
 use case_text::lists;
 use case_text::lists::FILLING;
 use case_text::lists::List;
@@ -21,8 +21,8 @@ const REFUSED: usize = 3;
 // Places for rows: the greatest room of a case, and more.
 const PLACES: usize = 24;
 
-// An answer of the census: the kind, the number of rows or of the cause, the greatest distance, the longest cycle, and the rows in two columns, which hold the
-// filling where no row is.
+// An answer of the census: the kind, the number of rows or of the cause, the greatest distance, the longest cycle, and the rows in two columns. The filling stands
+// where no row is, and for the two numbers that a refusal does not tell.
 struct Columns {
     lengths: [u8; 24],
     counts: [u8; 24],
@@ -60,8 +60,8 @@ fn answered(reply: Census, lengths: [u8; 24], counts: [u8; 24]) -> Columns {
             counts,
             kind: REFUSED,
             value: numbers::wide(patterns::number(cause)),
-            height: 0,
-            longest: 0,
+            height: numbers::wide(FILLING),
+            longest: numbers::wide(FILLING),
         },
     }
 }
@@ -126,54 +126,25 @@ fn expected(kind: usize, value: usize, output: List) -> Columns {
     }
 }
 
-// Whether the places from `start` on are as they were filled.
-fn is_filling(found: Columns, start: usize) -> bool {
-    let mut i = start;
-    while i < PLACES {
-        if found.lengths[i] != FILLING {
-            return false;
-        }
-        if found.counts[i] != FILLING {
-            return false;
-        }
-        i += 1;
-    }
-    true
-}
-
-// The rows as a table: at each length of a cycle the number of cycles.
-fn by_length(found: Columns) -> [u8; 256] {
-    let mut table = [0; 256];
-    let mut i = 0;
-    while i < PLACES {
-        if found.value <= i {
-            return table;
-        }
-        table[numbers::wide(found.lengths[i])] = found.counts[i];
-        i += 1;
-    }
-    table
-}
-
-// Whether the rows are the wanted ones, in any order, and nothing is written after them. There are as many.
+// Whether the rows are the wanted ones, in their order, and nothing is written after them.
 fn has_rows(found: Columns, wanted: Columns) -> bool {
-    if !is_filling(found, found.value) {
+    let lengths = found.lengths;
+    let wanted_lengths = wanted.lengths;
+    if !check::same(&lengths, &wanted_lengths) {
         return false;
     }
-    let left = by_length(found);
-    let right = by_length(wanted);
-    check::same(&left, &right)
+    let counts = found.counts;
+    let wanted_counts = wanted.counts;
+    check::same(&counts, &wanted_counts)
 }
 
+// Whether an answer is the wanted one.
 fn agrees(found: Columns, wanted: Columns) -> bool {
     if found.kind != wanted.kind {
         return false;
     }
     if found.value != wanted.value {
         return false;
-    }
-    if found.kind == REFUSED {
-        return is_filling(found, 0);
     }
     if found.height != wanted.height {
         return false;

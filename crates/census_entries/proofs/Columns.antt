@@ -1,20 +1,18 @@
 -- The rows of a census in two lent slices.
 use mathlib.Core.Path.{_≡_, refl, ap, ap₂, sym, _∙_, subst}
-use mathlib.Core.List.{List, [], _∷_, _++_}
-use Prim.Native.Nat.{ℕ, zero, suc, _+_, _-_, _≤_, _<_, min}
+use mathlib.Core.List.{List, _++_, map, append-assoc, map-append}
+use Prim.Native.Nat.{ℕ, suc, _+_, _-_, _≤_, _<_, min}
 use native.Mathlib.Omega.{arith}
 use native.Mathlib.Numerals.{add-one}
-use native.Mathlib.Nat.{le-of-lt, zero-min, min-zero, suc-min-suc, min-le-left, min-le-right}
+use native.Mathlib.Nat.{le-of-lt, min-le-left, min-le-right}
 use lib.ListN.{length, take, drop, getD, set, length-append, length-take, length-drop}
 use lib.Seq.{take-suc, drop-cons, set-at, append-snoc, length-take-le, drop-drop, drop-at}
 use Rattle.patterns.specs.Census.{Row}
-use Rattle.patterns.specs.Entry.{CensusReplied}
+use Rattle.patterns.specs.Entry.{ColumnsFilled}
 use Rattle.census.specs.declared.Rows.{Rows}
 use Rattle.patterns.specs.Census.{rowsOf}
-use Rattle.census.proofs.Filling.{rows-append}
-use Rattle.patterns.specs.Replies.{CensusAnswer}
+use Rattle.map_theory.proofs.SideBySide.{rows-lengths, rows-counts, first-list, second-list, rows-places, rows-drop}
 use Rattle.census_entries.specs.Decisions.{firstRows, RowsDecided}
-use Rattle.patterns.specs.Entry.{RowsReplied}
 use Rattle.census_entries.specs.Columns.{ColumnsPut}
 
 copy-next : (s d : List ℕ) (i : ℕ) → i < length s → i < length d → set (take i s ++ drop i d) i (getD s i 0) ≡ take (i + 1) s ++ drop (i + 1) d
@@ -68,35 +66,18 @@ module _ {rows : Rows} {n : ℕ} {lengths₀ counts₀ lengths counts : List ℕ
       let e : i ≡ n = omega (arith, f .within) in
       subst (λ j. ColumnsPut rows j lengths₀ counts₀ lengths counts) e (f .put)
 
--- Rows of two lists side by side.
-rows-drop : (n : ℕ) (a b : List ℕ) → rowsOf (drop n a) (drop n b) ≡ drop n (rowsOf a b)
-rows-drop zero a b = refl
-rows-drop (suc n) [] b = refl
-rows-drop (suc n) (x ∷ a) [] = rows-none (drop n a)
-  where
-    rows-none : (l : List ℕ) → rowsOf l [] ≡ []
-    rows-none [] = refl
-    rows-none (x ∷ l) = refl
-rows-drop (suc n) (x ∷ a) (y ∷ b) = rows-drop n a b
+-- the first m entries of a column, whatever part of the rows they are, and what the column held behind them
+column-put : (part : Row → ℕ) (m : ℕ) (a column : List ℕ) (first places : List Row) → map part first ≡ a → m ≤ length places
+    → drop m column ≡ map part (drop m places) ++ drop (length (drop m places)) (drop m column)
+    → a ++ drop m column ≡ map part (first ++ drop m places) ++ drop (length places) column
+column-put part m a column first places e fits behind =
+    let k : m + length (drop m places) ≡ length places = omega (arith, length-drop m places) in
+    ap₂ _++_ (sym e) (behind ∙ ap (λ l. map part (drop m places) ++ l) (drop-drop (length (drop m places)) m column ∙ ap (λ i. drop i column) k))
+    ∙ sym (append-assoc (map part first) (map part (drop m places)) (drop (length places) column))
+    ∙ ap (λ l. l ++ drop (length places) column) (sym (map-append part first (drop m places)))
 
-rows-places : (a b : List ℕ) → length (rowsOf a b) ≡ min (length a) (length b)
-rows-places [] b = sym (zero-min (length b))
-rows-places (x ∷ a) [] = sym (min-zero (suc (length a)))
-rows-places (x ∷ a) (y ∷ b) = ap suc (rows-places a b) ∙ sym (suc-min-suc (length a) (length b))
-
--- what stands behind them
-kept-behind : (n k : ℕ) (a d : List ℕ) → length a ≡ n → n ≤ k → drop k (a ++ drop n d) ≡ drop k d
-kept-behind n k a d e h =
-    let s : k ≡ n + (k - n) = omega arith in
-    ap (λ j. drop j (a ++ drop n d)) s
-    ∙ sym (drop-drop (k - n) n (a ++ drop n d))
-    ∙ ap (drop (k - n)) (drop-at a (drop n d) n e)
-    ∙ drop-drop (k - n) n d
-    ∙ ap (λ j. drop j d) (sym s)
-
--- what was decided for as many places as both slices have is put into them
-module _ {f : List ℕ} {rows : Rows} {m : ℕ} {answer : CensusAnswer} (lengths counts : List ℕ)
-    (w : RowsDecided f (min (length lengths) (length counts)) rows m answer) where
+-- what is to be written into as many places as both slices have is put into them
+module _ {f : List ℕ} {rows : Rows} {m : ℕ} (lengths counts : List ℕ) (w : RowsDecided f (min (length lengths) (length counts)) rows m) where
   pub columns-fit : (m ≤ 19) × (m ≤ length lengths) × (m ≤ length counts)
   columns-fit =
       let l = min-le-left (length lengths) (length counts) in
@@ -113,20 +94,20 @@ module _ {f : List ℕ} {rows : Rows} {m : ℕ} {answer : CensusAnswer} (lengths
     front : (length a ≡ m) × (length b ≡ m)
     front = (length-take-le m (rows .lengths) (omega (arith, w .few)), length-take-le m (rows .counts) (omega (arith, w .few)))
 
-    rows-put : rowsOf (a ++ drop m lengths) (b ++ drop m counts) ≡ firstRows rows m ++ drop m (rowsOf lengths counts)
-    rows-put =
-        rows-append a b (drop m lengths) (drop m counts) (front .0 ∙ sym (front .1))
-        ∙ ap (λ (l : List Row). firstRows rows m ++ l) (rows-drop m lengths counts)
-
-    pub columns-replied : {lengths′ counts′ : List ℕ} → ColumnsPut rows m lengths counts lengths′ counts′ → RowsReplied f lengths counts answer lengths′ counts′
-    columns-replied p =
-        let n = length (rowsOf lengths counts) in
-        let fits : m ≤ n = omega (arith, w .fits, rows-places lengths counts) in
+    pub columns-filled : {lengths′ counts′ : List ℕ} → ColumnsPut rows m lengths counts lengths′ counts′ → ColumnsFilled f lengths counts lengths′ counts′
+    columns-filled p =
+        let places = rowsOf lengths counts in
+        let fits : m ≤ length places = omega (arith, w .fits, rows-places lengths counts) in
+        let beside : length a ≡ length b = front .0 ∙ sym (front .1) in
+        let behind : rowsOf (drop m lengths) (drop m counts) ≡ drop m places = rows-drop m lengths counts in
+        let told = w .output places (rows-places lengths counts) in
         record {
-          rows =
-              subst (λ (after : List Row). CensusReplied f (rowsOf lengths counts) answer after)
-              (sym (ap₂ rowsOf (p .lengths-are) (p .counts-are) ∙ rows-put))
-              (w .replied (rowsOf lengths counts) (rows-places lengths counts));
-          lengths-kept = ap (drop n) (p .lengths-are) ∙ kept-behind m n a lengths (front .0) fits;
-          counts-kept = ap (drop n) (p .counts-are) ∙ kept-behind m n b counts (front .1) fits;
+          lengths-are =
+              p .lengths-are
+              ∙ column-put (λ r. r .cycleLength) m a lengths (firstRows rows m) places (rows-lengths a b beside) fits (rw behind at (first-list (drop m lengths) (drop m counts)))
+              ∙ ap (λ l. map (λ (r : Row). r .cycleLength) l ++ drop (length places) lengths) told;
+          counts-are =
+              p .counts-are
+              ∙ column-put (λ r. r .cycles) m b counts (firstRows rows m) places (rows-counts a b beside) fits (rw behind at (second-list (drop m lengths) (drop m counts)))
+              ∙ ap (λ l. map (λ (r : Row). r .cycles) l ++ drop (length places) counts) told;
         }

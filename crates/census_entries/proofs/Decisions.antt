@@ -1,50 +1,60 @@
 -- What the census entries decide, and that writing it keeps the promise.
-use mathlib.Core.Path.{_≡_, refl, ap, sym, _∙_, subst}
+use mathlib.Core.Path.{_≡_, refl, ap, sym, _∙_}
 use mathlib.Core.Bool.{true, false}
-use mathlib.Core.List.{List, _++_, map}
+use mathlib.Core.List.{List, [], _++_, map}
 use Prim.Native.Nat.{ℕ, _≤_, _<_}
 use native.Mathlib.Omega.{arith}
 use lib.Dec.{leb}
 use lib.ListN.{length, take, drop, length-map}
 use lib.Seq.{length-take-le}
 use borrow.Author.Tests.{le-leb, lt-leb}
-use Rattle.lists.proofs.Tests.{clash}
+use Rattle.lists.proofs.Tests.{by-test, clash}
 use Rattle.patterns.specs.declared.Refusal.{Refusal}
 use Rattle.patterns.specs.declared.Refusal.the-variants.{Room}
 use Rattle.patterns.specs.Table.{image}
 use Rattle.patterns.specs.Census.{Row, height, longestCycle}
-use Rattle.patterns.specs.Reading.{done, fault}
-use Rattle.patterns.specs.Entry.{checkedTable, table-refused, counted, CensusReplied, entriesOf}
+use Rattle.patterns.specs.Reading.{Result, done, fault}
+use Rattle.patterns.specs.Entry.{gives, outcome, answered, filled, checkedTable, censusOf, rowsFound, censusAnswered, CensusReplied}
 use Rattle.patterns.specs.declared.reply.Reply.the-variants.{Length, Refused}
 use Rattle.patterns.specs.declared.reply.Row.{Row as Entry}
 use Rattle.patterns.specs.declared.reply.Census.the-variants.{Counted, Refused as NotCounted}
-use Rattle.patterns.specs.Replies.{refused, CensusAnswer, census-is, census-refused, numberOf, answerOf, censusAnswer, rowOf}
+use Rattle.patterns.specs.Replies.{length-is, refused, census-is, census-refused, numberOf, answerOf, censusAnswer, rowOf}
 use Rattle.tables.proofs.Tables.{checked-table}
 use Rattle.census.specs.declared.Rows.{Rows}
 use Rattle.census.specs.Rows.{rowsIn, RowsOf}
-use Rattle.census.proofs.CensusRows.{rows-length}
+use Rattle.map_theory.proofs.SideBySide.{rows-length}
 use Rattle.census_entries.specs.declared.Choice.{Choice}
 use Rattle.census_entries.specs.declared.Decision.{Decision}
-use Rattle.census_entries.specs.Decisions.{RowsDecided, rowsFilled, Decided, Refuses, Whole, Chosen}
+use Rattle.census_entries.specs.Decisions.{rowsFilled, RowsDecided, Refuses, Chosen, Decided}
 
--- a choice that refuses tells no number of rows
-not-whole : {cause : Refusal} {c : Choice} → Refuses cause c → (n : ℕ) → c .reply ≡ Length n → {A : Type 0} → A
-not-whole {cause} r n e = let k : Refused cause ≡ Length n = sym (r .reply) ∙ e in clash cc
+-- what the census of a table finds, and that of none
+rows-found : (f : List ℕ) {rows : Rows} → checkedTable f ≡ done f → RowsOf f rows → censusOf f ≡ done (rowsIn rows)
+unfolding censusOf
+rows-found f e w = rw e (ap done (sym (w .rows-are)))
 
--- a bad table
-pub chosen-refused : (f : List ℕ) (cause : Refusal) → checkedTable f ≡ fault cause → (places : ℕ) {c : Choice} → Refuses cause c → Chosen f places c
-chosen-refused f cause e places r =
+none-found : (f : List ℕ) {cause : Refusal} → checkedTable f ≡ fault cause → censusOf f ≡ fault cause
+unfolding censusOf
+none-found f e = rw e
+
+-- a choice that refuses, where the census has that refusal for every list of so many places
+refused-choice : {f : List ℕ} {cause : Refusal} (places : ℕ) {c : Choice} → Refuses cause c
+    → ((before : List Row) → length before ≡ places → (refused (numberOf cause) ≡ answered (rowsFound f) before) × (before ≡ filled (rowsFound f) before))
+    → Chosen f places c
+refused-choice {f} {cause} places r h =
     record {
-      answer = census-refused (numberOf cause);
-      decided =
+      rows-decided =
           record {
             few = omega (arith, r .nothing);
             fits = omega (arith, r .nothing);
-            replied = λ before l. rw (r .nothing) (record { found = fault cause; isCensus = table-refused e; reply = refl; output = refl });
+            output = λ before l. rw (r .nothing) (h before l .1);
           };
-      reply = ap answerOf (r .reply);
-      whole = λ n q. not-whole r n q;
+      reply = λ before l. ap answerOf (r .reply) ∙ h before l .0;
+      counted = λ n e. let k : Refused cause ≡ Length n = sym (r .reply) ∙ e in clash cc;
     }
+
+-- a bad table
+pub chosen-refused : (f : List ℕ) (cause : Refusal) → checkedTable f ≡ fault cause → (places : ℕ) {c : Choice} → Refuses cause c → Chosen f places c
+chosen-refused f cause e places r = refused-choice places r (λ before l. rw (none-found f e) (refl, refl))
 
 module _ (f : List ℕ) (e : checkedTable f ≡ done f) (rows : Rows) (w : RowsOf f rows) (lengths-all : length (rows .lengths) ≡ 19)
     (counts-all : length (rows .counts) ≡ 19) (places : ℕ) where
@@ -58,68 +68,67 @@ module _ (f : List ℕ) (e : checkedTable f ≡ done f) (rows : Rows) (w : RowsO
   -- the list is too short
   pub chosen-short : places < rows .rows → {c : Choice} → Refuses Room c → Chosen f places c
   chosen-short h r =
-      record {
-        answer = census-refused (numberOf Room);
-        decided =
-            record {
-              few = omega (arith, r .nothing);
-              fits = omega (arith, r .nothing);
-              replied = λ before l.
-                  let test : leb (length (rowsIn rows)) (length before) ≡ false = lt-leb (length (rowsIn rows)) (length before) (omega (arith, rows-many)) in
-                  rw (r .nothing) (record { found = done (rowsIn rows); isCensus = counted e (w .isCensus); reply = rw test; output = rw test });
-            };
-        reply = ap answerOf (r .reply);
-        whole = λ n q. not-whole r n q;
-      }
+      refused-choice places r
+      (λ before l.
+      let test : leb (length (rowsIn rows)) (length before) ≡ false = lt-leb (length (rowsIn rows)) (length before) (omega (arith, rows-many)) in
+      rw (rows-found f e w) (rw test (refl, refl)))
 
   -- all rows are written
   pub chosen-fits : rows .rows ≤ places → Chosen f places (record { rows = rows; filled = rows .rows; reply = Length (rows .rows) })
   chosen-fits h =
+      let test : (before : List Row) → length before ≡ places → leb (length (rowsIn rows)) (length before) ≡ true =
+      λ before l. le-leb (length (rowsIn rows)) (length before) (omega (arith, rows-many)) in
       record {
-        answer = census-is (rows .rows) (height (length f) (image f)) (longestCycle (length f) (image f));
-        decided =
+        rows-decided =
             record {
               few = w .few;
               fits = h;
-              replied = λ before l.
-                  let test : leb (length (rowsIn rows)) (length before) ≡ true = le-leb (length (rowsIn rows)) (length before) (omega (arith, rows-many)) in
-                  record {
-                    found = done (rowsIn rows);
-                    isCensus = counted e (w .isCensus);
-                    reply = rw test (rw rows-many);
-                    output = rw test (ap (λ j. rowsIn rows ++ drop j before) (sym rows-many));
-                  };
+              output = λ before l. rw (rows-found f e w) (rw (test before l) (ap (λ j. rowsIn rows ++ drop j before) (sym rows-many)));
             };
-        reply = refl;
-        whole = λ n q.
-            let many : rows .rows ≡ n = cc in
-            record {
-              isTable = checked-table f e;
-              rows-are = w;
-              answer = ap (λ k. census-is k (height (length f) (image f)) (longestCycle (length f) (image f))) many;
-            };
+        reply = λ before l. rw (rows-found f e w) (rw (test before l) (ap length-is (sym rows-many)));
+        counted = λ n q. (checked-table f e, w);
       }
 
--- the answer whose number of rows is a refusal is that refusal
-refusal-is : (a : CensusAnswer) (cause : ℕ) → refused cause ≡ entriesOf a → a ≡ census-refused cause
-refusal-is (census-is n h l) cause e = clash cc
-refusal-is (census-refused d) cause e = let z : cause ≡ d = cc in ap census-refused (sym z)
+-- the whole answer beside the number of rows, or the same refusal
+module _ (f : List ℕ) (before : List Row) where
+  refusal-told : (o : Result (List Row)) {cause : ℕ} → refused cause ≡ answered (outcome o gives) before → census-refused cause ≡ censusAnswered f o before
+  refusal-told (done rows) {cause} e =
+      by-test (leb (length rows) (length before))
+      (λ t. let k : refused cause ≡ length-is (length rows) = e ∙ rw t in clash cc)
+      (λ t. let k : refused cause ≡ refused (numberOf Room) = e ∙ rw t in let z : cause ≡ numberOf Room = cc in rw t (ap census-refused z))
+  refusal-told (fault c) {cause} e = let z : cause ≡ numberOf c = cc in ap census-refused z
+
+  number-told : (o : Result (List Row)) {n : ℕ} → length-is n ≡ answered (outcome o gives) before
+      → census-is n (height (length f) (image f)) (longestCycle (length f) (image f)) ≡ censusAnswered f o before
+  number-told (done rows) {n} e =
+      by-test (leb (length rows) (length before))
+      (λ t.
+      let k : length-is n ≡ length-is (length rows) = e ∙ rw t in
+      let z : n ≡ length rows = cc in
+      rw t (ap (λ m. census-is m (height (length f) (image f)) (longestCycle (length f) (image f))) z))
+      (λ t. let k : length-is n ≡ refused (numberOf Room) = e ∙ rw t in clash cc)
+  number-told (fault c) e = clash cc
 
 -- a choice completed by what it does not tell
 module _ {f : List ℕ} {places : ℕ} {c : Choice} (k : Chosen f places c) where
   pub decided-refused : {cause : Refusal} → c .reply ≡ Refused cause → Decided f places (record { rows = c .rows; filled = c .filled; reply = NotCounted cause })
-  decided-refused {cause} e =
-      let a : k .answer ≡ census-refused (numberOf cause) = refusal-is (k .answer) (numberOf cause) (ap answerOf (sym e) ∙ k .reply) in
-      subst (λ a. RowsDecided f places (c .rows) (c .filled) a) a (k .decided)
+  decided-refused e =
+      record { rows-decided = k .rows-decided; reply = λ before l. refusal-told f before (censusOf f) (ap answerOf (sym e) ∙ k .reply before l) }
 
   pub decided-counted : {n h l : ℕ} → c .reply ≡ Length n → h ≡ height (length f) (image f) → l ≡ longestCycle (length f) (image f)
       → Decided f places (record { rows = c .rows; filled = c .filled; reply = Counted n h l })
-  decided-counted {n} {h} {l} e p q =
-      let a : k .answer ≡ census-is n h l = k .whole n e .answer ∙ rw (p, q) in
-      subst (λ a. RowsDecided f places (c .rows) (c .filled) a) a (k .decided)
+  decided-counted e p q =
+      record {
+        rows-decided = k .rows-decided;
+        reply = λ before l. rw (p, q) (number-told f before (censusOf f) (ap answerOf (sym e) ∙ k .reply before l));
+      }
 
 -- what was decided is written into a list of structs
-pub decision-written : {f : List ℕ} (d : Decision) (ys zs : List Entry) → Decided f (length ys) d → map rowOf zs ≡ rowsFilled d ++ drop (d .filled) (map rowOf ys)
+pub decision-written : {f : List ℕ} (d : Decision) (ys zs : List Entry) → Decided f (length ys) d
+    → map rowOf zs ≡ rowsFilled d ++ drop (d .filled) (map rowOf ys)
     → CensusReplied f (map rowOf ys) (censusAnswer (d .reply)) (map rowOf zs)
-decision-written {f} d ys zs w e =
-    subst (λ (after : List Row). CensusReplied f (map rowOf ys) (censusAnswer (d .reply)) after) (sym e) (w .replied (map rowOf ys) (length-map ys rowOf))
+decision-written d ys zs w e =
+    record {
+      reply = w .reply (map rowOf ys) (length-map ys rowOf);
+      output = e ∙ w .rows-decided .output (map rowOf ys) (length-map ys rowOf);
+    }

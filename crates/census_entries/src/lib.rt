@@ -104,7 +104,7 @@ fn decide(table: &[u8], places: usize) -> Decision
     }
 }
 
-// Writes the census of the map `table` into the lent list: each entry is a cycle length and the number of such cycles.
+// Writes the census of the map `table` into the lent list: a row for each cycle length that occurs, rising, with the number of such cycles.
 pub fn census(table: &[u8], rows: &mut [Row]) -> Census
     ensures { λ r. ⌜ CensusReplied (now (table .entry)) (map rowOf (now (rows .entry))) (censusAnswer r) (map rowOf (now (rows .exit))) ⌝ }
 {

@@ -27,8 +27,8 @@ use Rattle.tables.specs.Tables.{Table}
 use Rattle.tables.proofs.Tables.{checked-table}
 
 -- a length is the reply only where there is a result, which then stands in the first places
-pub result-written : (o : Outcome ℕ) {before after : List ℕ} {n : ℕ} → Replied o before (length-is n) after
-    → (l : List ℕ) × (o ≡ gives l) × (n ≡ length l) × (take n after ≡ l)
+pub result-written : {A : Type 0} (o : Outcome A) {before after : List A} {n : ℕ} → Replied o before (length-is n) after
+    → (l : List A) × (o ≡ gives l) × (n ≡ length l) × (take n after ≡ l)
 result-written (gives l) {before} {after} {n} p =
     by-test (leb (length l) (length before))
     (λ e.
@@ -104,13 +104,17 @@ module _ (f g : List ℕ) (c : checkedTable f ≡ done f) (d : checkedTable g �
   second-weight : weight (systemOfTable g) ≡ length g
   second-weight = table-weight (length g) g refl (second-table .table)
 
-  same-systems : codeOfMap f ≡ codeOfMap g → systemOfTable f ≡ systemOfTable g
+  -- two maps with the same code have the same system, and equally many points
+  pub same-systems : codeOfMap f ≡ codeOfMap g → systemOfTable f ≡ systemOfTable g
   same-systems e =
       let y = sym (code-gives f (first-table .small) (first-table .table)) ∙ e ∙ code-gives g (second-table .small) (second-table .table) in
       let w : written (systemOfTable f) ≡ written (systemOfTable g) = cc in
       written-equal (systemOfTable f) (systemOfTable g) (table-canonical (length f) f refl (first-table .table))
       (table-canonical (length g) g refl (second-table .table))
       (omega (arith, first-weight, first-table .small)) (omega (arith, second-weight, second-table .small)) w
+
+  pub same-points : codeOfMap f ≡ codeOfMap g → length f ≡ length g
+  same-points e = sym first-weight ∙ ap weight (same-systems e) ∙ second-weight
 
   same-codes : systemOfTable f ≡ systemOfTable g → codeOfMap f ≡ codeOfMap g
   same-codes e =
@@ -129,7 +133,7 @@ module _ (f g : List ℕ) (c : checkedTable f ≡ done f) (d : checkedTable g �
           by-test (leb (length r) (length before))
           (λ t. let y : lacking ≡ length-is (length r) = k ∙ rw t in clash cc)
           (λ t. let y : lacking ≡ refused 8 = k ∙ rw t in clash cc)
-      of o (lengths-differ q u h) k = h (sym first-weight ∙ ap weight (same-systems e) ∙ second-weight)
+      of o (lengths-differ q u h) k = h (same-points e)
       of o (not-found q u l h) k =
           let i = same-system-isomorphic (length f) f g refl (first-table .table) (sym l) (second-table .table) (same-systems e) in
           h (i .0) (i .1)

@@ -6,7 +6,7 @@ use Prim.Native.Nat.{ℕ, zero, suc, _≤_, _<_, compare}
 use native.Mathlib.Omega.{arith}
 use lib.Dec.{leb}
 use borrow.Author.Tests.{leb-true, leb-false}
-use lib.ListN.{length, getD}
+use lib.ListN.{length, getD, take}
 use Rattle.lists.specs.Order.{same}
 use Rattle.lists.specs.Select.{keep, gather, range, times}
 use Rattle.lists.proofs.Tests.{_∈_, by-test, either, no-both}
@@ -21,6 +21,11 @@ module _ {A B : Type 0} where
   pub map-same : (g h : A → B) (l : List A) → ((x : A) → x ∈ l → g x ≡ h x) → map g l ≡ map h l
   map-same g h [] e = refl
   map-same g h (x ∷ l) e = ap₂ _∷_ (e x in-head) (map-same g h l (λ y m. e y (in-tail m)))
+
+  pub take-map : (n : ℕ) (g : A → B) (l : List A) → take n (map g l) ≡ map g (take n l)
+  take-map zero g l = refl
+  take-map (suc n) g [] = refl
+  take-map (suc n) g (x ∷ l) = ap (λ r. g x ∷ r) (take-map n g l)
 
   -- every piece has one entry
   pub gather-single : (g : A → List B) (h : A → B) (l : List A) → ((x : A) → x ∈ l → g x ≡ h x ∷ []) → gather g l ≡ map h l
@@ -58,6 +63,7 @@ gather-same g h [] e = refl
 gather-same g h (x ∷ l) e = ap₂ _++_ (e x in-head) (gather-same g h l (λ y m. e y (in-tail m)))
 
 module _ {A : Type 0} where
+  -- tests that agree on the members keep the same
   pub keep-same : (p q : A → Bool) (l : List A) → ((x : A) → x ∈ l → p x ≡ q x) → keep p l ≡ keep q l
   keep-same p q [] h = refl
   keep-same p q (x ∷ l) h = ap₂ (λ b r. cond b (x ∷ r) r) (h x in-head) (keep-same p q l (λ y m. h y (in-tail m)))

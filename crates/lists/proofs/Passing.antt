@@ -13,6 +13,7 @@ use Rattle.lists.specs.Select.{keep, gather, range, some-of, place, newA
 use Rattle.lists.proofs.Tests.{_∈_, by-test, no-both, and-true, is-false, some-append, some-member, some-true}
 use Rattle.lists.proofs.Members.{Decides, in-head, in-tail, in-moved, keep-all, of-keep, of-once, of-gather, of-range, gather-append, in-single, not-in-nil}
 use Rattle.lists.proofs.Places.{first-split, place-split, place-index, next-split, range-append}
+use Rattle.lists.proofs.Gathering.{keep-same}
 
 module _ {A : Type 0} where
   -- two tests one after the other are one test
@@ -26,15 +27,6 @@ module _ {A : Type 0} where
       (λ u. rw (t, u, e, t, u) (ap (λ k. x ∷ k) rest))
       (λ u. rw (t, u, e, t, u) rest))
       (λ t. rw (t, e, t) rest)
-
-  -- tests that agree on the members keep the same
-  pub keep-same : (p q : A → Bool) (l : List A) → ((x : A) → x ∈ l → p x ≡ q x) → keep p l ≡ keep q l
-  keep-same p q [] h = refl
-  keep-same p q (x ∷ l) h =
-      let rest = keep-same p q l (λ y m. h y (in-tail m)) in
-      by-test (q x)
-      (λ t. rw (h x in-head, t) (ap (λ k. x ∷ k) rest))
-      (λ t. rw (h x in-head, t) rest)
 
 module _ {A : Type 0} {c : A → A → Ordering} (w : Decides c) (p : A → Bool) (d : A) where
   -- what stands in a has its place in a

@@ -1,12 +1,12 @@
--- Lists that rise strictly by a comparison: joined, gathered, mapped and kept lists that rise.
-use mathlib.Core.Path.{_≡_, ap, _∙_}
+-- Lists that rise strictly by a comparison: joined, gathered, mapped and kept lists that rise, and that the members alone determine such a list.
+use mathlib.Core.Path.{_≡_, refl, ap, ap₂, sym, _∙_}
 use mathlib.Core.List.{List, [], _∷_, _++_, map}
 use mathlib.Core.Bool.{Bool}
 use Prim.Native.Nat.{ℕ, zero, suc, Ordering, Ordering·lt, compare}
 use native.Mathlib.Omega.{arith}
 use Rattle.lists.specs.Select.{keep, gather, range}
 use Rattle.lists.proofs.Tests.{_∈_, by-test, either}
-use Rattle.lists.proofs.Comparison.{Lawful, compare-lt}
+use Rattle.lists.proofs.Comparison.{Lawful, lt-asymmetric, lt-not-eq, eq-of-path, compare-lt}
 use Rattle.lists.proofs.Members.{NoDup, one, empty, in-head, in-tail, in-cons-cases, not-in-nil, in-append-right, in-append-cases, of-keep, of-map, of-gather, of-range}
 
 -- each entry stands in the relation R to every later one
@@ -68,6 +68,20 @@ module _ {A : Type 0} {c : A → A → Ordering} where
       pairs-cons
       (λ y m. h x y in-head (in-tail m) (k y m))
       (rising-pairs R r (λ y z i j. h y z (in-tail i) (in-tail j)))
+
+-- two rising lists with the same members are the same list
+pub rising-unique : {A : Type 0} {c : A → A → Ordering} → Lawful c → {l m : List A} → Rising c l → Rising c m
+    → ((x : A) → x ∈ l → x ∈ m) → ((x : A) → x ∈ m → x ∈ l) → l ≡ m
+rising-unique w rising-nil rising-nil h k = refl
+rising-unique w rising-nil (rising-cons {x = y} b s) h k = not-in-nil (k y in-head)
+rising-unique w (rising-cons {x = x} a r) rising-nil h k = not-in-nil (h x in-head)
+rising-unique w (rising-cons {x = x} {l = l} a r) (rising-cons {x = y} {l = m} b s) h k =
+    let e : x ≡ y =
+    either (in-cons-cases (h x in-head)) (λ q. q) (λ i. either (in-cons-cases (k y in-head)) (λ q. sym q) (λ j. lt-asymmetric w x y (a y j) (b x i))) in
+    ap₂ _∷_ e
+    (rising-unique w r s
+    (λ z i. either (in-cons-cases (h z (in-tail i))) (λ q. lt-not-eq (a z i) (eq-of-path w (e ∙ sym q))) (λ j. j))
+    (λ z i. either (in-cons-cases (k z (in-tail i))) (λ q. lt-not-eq (b z i) (eq-of-path w (sym e ∙ sym q))) (λ j. j)))
 
 module _ {A B : Type 0} {d : B → B → Ordering} where
   -- f keeps less among the members

@@ -1,5 +1,5 @@
--- The census of a map f on the points below n: every point on a cycle belongs to exactly one of the counted cycles, the cycle lengths add up to
--- the points on cycles, the greatest distance and the longest cycle are those of the map, a census exists, and at most 19 lengths occur.
+-- The cycles of a map f on the points below n, as the census counts them: every point on a cycle belongs to exactly one of the counted cycles, the cycle lengths
+-- add up to the points on cycles, and the greatest distance and the longest cycle are those of the map.
 use mathlib.Core.Path.{_≡_, refl, ap, sym, _∙_}
 use mathlib.Core.List.{List, [], _∷_, map}
 use mathlib.Core.Bool.{Bool, true, cond, _&&_}
@@ -17,7 +17,7 @@ use Rattle.lists.proofs.Members.{NoDup, compare-decides, in-head, in-tail, in-c
 use Rattle.lists.proofs.Places.{times-out, times-in, in-of-times, times-nodup, nodup-times}
 use Rattle.lists.proofs.Pigeon.{inside-rest, same-members-perm, nodup-below-length}
 use Rattle.patterns.specs.Table.{onCycle, cycleFrom, leaders}
-use Rattle.patterns.specs.Census.{greatest, Row, cycleLengths, cyclesOf, stepsToCycle, height, longestCycle, Census}
+use Rattle.patterns.specs.Census.{greatest, cycleLengths, cyclesOf, stepsToCycle, height, longestCycle}
 use Rattle.map_theory.proofs.Orbits.{every-point-reaches-cycle, iterate, iterate-inside}
 use Rattle.map_theory.proofs.Leaders.{cycle-nodup, cycle-onCycle, cycle-sym, cycle-trans, one-leader, of-leaders, leader-onCycle, has-leader, cycles-perm}
 
@@ -180,43 +180,3 @@ module _ (n : ℕ) (f : ℕ → ℕ) where
             ∙ sym (same-all ∙ ap (λ b. total (λ y. cond b 1 0) (cycleFrom n f x)) t))
             (λ t. ap (λ b. l * cond b 1 0) t ∙ mul-zero l ∙ sym (total-zero (cycleFrom n f x))
             ∙ sym (same-all ∙ ap (λ b. total (λ y. cond b 1 0) (cycleFrom n f x)) t))
-
-    -- at most 19 different lengths occur among at most 200 points
-    pub census-fits : (rows : List Row) → Census n f rows → n ≤ 200 → length rows ≤ 19
-    census-fits rows c h =
-        let ls : List ℕ = map (λ r. r .cycleLength) rows in
-        let d : NoDup ls = nodup-times ls (λ l. by-test (eqb (cyclesOf n f l) 0)
-        (λ t. let e = c .once l in let e′ : times l ls ≡ 0 = rw t at e in omega arith)
-        (λ t. let e = c .once l in let e′ : times l ls ≡ 1 = rw t at e in omega arith)) in
-        let i : (l : ℕ) → l ∈ ls → l ∈ cycleLengths n f = λ l m. by-test (eqb (cyclesOf n f l) 0)
-        (λ t. let e = c .once l in let e′ : times l ls ≡ 0 = rw t at e in let b = times-in m in absurd (omega arith))
-        (λ t. let b = eqb-false (cyclesOf n f l) 0 t in occurs l (omega arith)) in
-        let r = inside-rest d i in
-        let s = different-sum ls d (λ l m. cycleLengths-positive l (i l m)) in
-        omega (arith, length-map rows (λ r. r .cycleLength), r .1 (λ l. l), lengths-add-up, cycle-points-bound)
-
-  -- the row of a length
-  abbrev row : ℕ → Row
-  row l = record { cycleLength = l; cycles = cyclesOf n f l }
-
-  row-lengths : (ls : List ℕ) → map (λ (r : Row). r .cycleLength) (map row ls) ≡ ls
-  row-lengths [] = refl
-  row-lengths (l ∷ ls) = ap (λ r. l ∷ r) (row-lengths ls)
-
-  row-counts : (ls : List ℕ) → map (λ (r : Row). r .cycles) (map row ls) ≡ map (λ (r : Row). cyclesOf n f (r .cycleLength)) (map row ls)
-  row-counts [] = refl
-  row-counts (l ∷ ls) = ap (λ r. cyclesOf n f l ∷ r) (row-counts ls)
-
-  -- there is a census: one row for each length that occurs
-  pub census-exists : (rows : List Row) × Census n f rows
-  census-exists =
-      let ls : List ℕ = once compare (cycleLengths n f) in (
-        map row ls,
-        record {
-          once = λ l. ap (times l) (row-lengths ls) ∙ by-test (eqb (cyclesOf n f l) 0)
-              (λ t. rw t (times-out l ls (λ m. occurs-not l (eqb-true (cyclesOf n f l) 0 t) (of-once compare (cycleLengths n f) m))))
-              (λ t. rw t (times-nodup (nodup-once compare-decides (cycleLengths n f))
-              (in-once compare-decides (let b = eqb-false (cyclesOf n f l) 0 t in occurs l (omega arith)))));
-          counted = row-counts ls;
-        },
-      )

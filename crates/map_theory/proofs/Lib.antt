@@ -20,3 +20,5 @@ pub mod Exists
 pub mod FromLeaders
 pub mod Theorems
 pub mod CensusTheory
+pub mod Occurring
+pub mod SideBySide

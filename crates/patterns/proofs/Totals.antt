@@ -3,11 +3,8 @@ use mathlib.Core.Path.{_≡_, refl}
 use mathlib.Core.Bool.{true, false}
 use mathlib.Core.List.{List, [], _∷_, map}
 use Prim.Native.Nat.{ℕ, Ordering·lt}
-use lib.Dec.{eqb}
-use borrow.Author.Tests.{eqb-true}
 use lib.ListN.{length}
 use Rattle.lists.specs.Select.{range}
-use Rattle.lists.proofs.Tests.{by-test}
 use Rattle.patterns.specs.Tree.{point, merge, code, compareTree}
 use Rattle.patterns.specs.Component.{Component, leastRotation}
 use Rattle.patterns.specs.Generation.{isChild, generation}
@@ -15,7 +12,7 @@ use Rattle.patterns.specs.System.{codes}
 use Rattle.patterns.specs.Written.{written}
 use Rattle.patterns.specs.Reading.{done, cut}
 use Rattle.patterns.specs.Table.{image}
-use Rattle.patterns.specs.Census.{Row, Census, cyclesOf, height, longestCycle}
+use Rattle.patterns.specs.Census.{Row, censusRows, height, longestCycle}
 use Rattle.patterns.specs.Entry.{acceptOf, codeOfMap}
 use Rattle.patterns.specs.Sheet.{AllHold, table-has-code, refused-with}
 
@@ -121,15 +118,9 @@ table = image (1 ∷ 0 ∷ 2 ∷ 2 ∷ [])
 abbrev rows : List Row
 rows = record { cycleLength = 1; cycles = 1 } ∷ record { cycleLength = 2; cycles = 1 } ∷ []
 
-pub census-rows : Census 4 table rows
-unfolding cyclesOf
-census-rows = record {
-  once = λ l.
-      by-test (eqb l 1)
-      (λ e. rw (eqb-true l 1 e))
-      (λ e. by-test (eqb l 2) (λ f. rw (eqb-true l 2 f)) (λ f. rw (e, f)));
-  counted = refl;
-}
+pub census-rows : censusRows 4 table ≡ rows
+unfolding censusRows
+census-rows = refl
 
 pub census-height : height 4 table ≡ 1
 unfolding height

@@ -1,11 +1,10 @@
--- The census of a map: document 01, "Refusing", last but one paragraph.
-use mathlib.Core.Path.{_≡_}
-use mathlib.Core.Bool.{cond}
+-- The census of a map: document 01, "Refusing", last but one paragraph, and document 02, paper 1, which fixes the order of its rows.
+use mathlib.Core.Bool.{cond, not}
 use mathlib.Core.List.{List, [], _∷_, map}
 use Prim.Native.Nat.{ℕ, zero, suc}
 use lib.Dec.{leb, eqb}
 use lib.ListN.{length}
-use Rattle.lists.specs.Select.{range, times}
+use Rattle.lists.specs.Select.{keep, range, times}
 use Rattle.patterns.specs.Table.{onCycle, cycleFrom, leaders}
 
 abbrev pub greatest : List ℕ → ℕ
@@ -34,6 +33,16 @@ module _ (n : ℕ) (f : ℕ → ℕ) where
   unfolding cycleLengths
   cyclesOf l = times l cycleLengths
 
+  -- the cycle lengths that occur, rising; no cycle of n points is longer than n
+  unfoldable pub occurring : List ℕ
+  unfolding cyclesOf
+  occurring = keep (λ l. not (eqb (cyclesOf l) 0)) (range 1 n)
+
+  -- Paper 1: a row for each length that occurs, with its number of cycles, by rising length.
+  unfoldable pub censusRows : List Row
+  unfolding occurring cyclesOf
+  censusRows = map (λ l. record { cycleLength = l; cycles = cyclesOf l }) occurring
+
   -- the steps from x to its cycle, at most k
   unfoldable pub stepsToCycle : ℕ → ℕ → ℕ
   unfolding onCycle
@@ -51,8 +60,3 @@ module _ (n : ℕ) (f : ℕ → ℕ) where
   unfoldable pub longestCycle : ℕ
   unfolding cycleLengths
   longestCycle = greatest cycleLengths
-
-  -- Every occurring length has one row, with its number of cycles; the order of the rows is free.
-  pub record Census (rows : List Row) : Type 0 where
-    pub once : (l : ℕ) → times l (map (λ r. r .cycleLength) rows) ≡ cond (eqb (cyclesOf l) 0) 0 1
-    pub counted : map (λ r. r .cycles) rows ≡ map (λ r. cyclesOf (r .cycleLength)) rows

@@ -2,7 +2,7 @@
 use denote.Ref.{RefT, ptr, now}
 use mathlib.Core.Path.{_≡_}
 use mathlib.Core.Bool.{cond}
-use mathlib.Core.List.{List, _++_}
+use mathlib.Core.List.{List, _++_, map}
 use mathlib.Core.Option.{Option, none, some}
 use Prim.Native.Nat.{ℕ, _+_, _-_}
 use lib.Dec.{leb, ltb}
@@ -16,7 +16,7 @@ use Rattle.patterns.specs.Reading.{Result, done, fault, andThen, accepte
 use Rattle.patterns.specs.Table.{image, isTable, systemOfTable}
 use Rattle.patterns.specs.MapOf.{mapOf}
 use Rattle.patterns.specs.Isomorphism.{Isomorphism}
-use Rattle.patterns.specs.Census.{Row, rowsOf, Census, height, longestCycle}
+use Rattle.patterns.specs.Census.{Row, rowsOf, censusRows, height, longestCycle}
 use Rattle.patterns.specs.Replies.{numberOf, Answer, length-is, last, lacking, refused, CensusAnswer, census-is, census-refused, PartAnswer, part-is, part-refused}
 
 -- What an entry finds before it looks at the lent output: a result to write, "last", "none", or a refusal.
@@ -104,10 +104,14 @@ pub record IsomorphismReplied (f g before : List ℕ) (answer : Answer) (after :
   pub isFound : IsomorphismFound f g found
   pub replied : Replied found before answer after
 
--- Entry "census of a map": the rows that it writes, in an order left open
-pub data Counted (f : List ℕ) : Result (List Row) → Type 0 where
-  table-refused : {c : Refusal} → checkedTable f ≡ fault c → Counted f (fault c)
-  counted : {rows : List Row} → checkedTable f ≡ done f → Census (length f) (image f) rows → Counted f (done rows)
+-- Entry "census of a map": its rows, or the refusal of the table
+unfoldable pub censusOf : List ℕ → Result (List Row)
+unfolding checkedTable censusRows
+censusOf f = andThen (checkedTable f) (λ f. done (censusRows (length f) (image f)))
+
+-- what is found of it to write
+abbrev pub rowsFound : List ℕ → Outcome Row
+rowsFound f = outcome (censusOf f) gives
 
 abbrev pub censusAnswered : List ℕ → Result (List Row) → List Row → CensusAnswer
 censusAnswered f (done rows) out =
@@ -115,30 +119,30 @@ censusAnswered f (done rows) out =
     cond (leb (length rows) (length out)) whole (census-refused (numberOf Room))
 censusAnswered f (fault c) out = census-refused (numberOf c)
 
--- the reply of that entry
+-- the reply of that entry, and what it leaves in the lent list
 pub record CensusReplied (f : List ℕ) (before : List Row) (answer : CensusAnswer) (after : List Row) : Type 0 where
-  pub found : Result (List Row)
-  pub isCensus : Counted f found
-  pub reply : answer ≡ censusAnswered f found before
-  pub output : after ≡ filled (outcome found gives) before
+  pub reply : answer ≡ censusAnswered f (censusOf f) before
+  pub output : after ≡ filled (rowsFound f) before
 
--- the same in two lent lists of numbers: the rows are the cycle lengths in one with the numbers of cycles beside them in the other, as many as the shorter has
--- places, and what stands behind them in the longer is kept
+-- The rows in two lent lists of numbers, the cycle lengths in one and the numbers of cycles beside them in the other: as many places as the shorter has, and what
+-- stands behind them in the longer is kept. What one list holds afterwards, given the places and what of a row it takes:
+abbrev pub columnFilled : List ℕ → List Row → (Row → ℕ) → List ℕ → List ℕ
+columnFilled f places part before = map part (filled (rowsFound f) places) ++ drop (length places) before
+
+-- and both
+pub record ColumnsFilled (f lengths counts lengths′ counts′ : List ℕ) : Type 0 where
+  pub lengths-are : lengths′ ≡ columnFilled f (rowsOf lengths counts) (λ r. r .cycleLength) lengths
+  pub counts-are : counts′ ≡ columnFilled f (rowsOf lengths counts) (λ r. r .cycles) counts
+
+-- the reply of the census in two columns
 pub record RowsReplied (f lengths counts : List ℕ) (answer : CensusAnswer) (lengths′ counts′ : List ℕ) : Type 0 where
-  pub rows : CensusReplied f (rowsOf lengths counts) answer (rowsOf lengths′ counts′)
-  pub lengths-kept : drop (length (rowsOf lengths counts)) lengths′ ≡ drop (length (rowsOf lengths counts)) lengths
-  pub counts-kept : drop (length (rowsOf lengths counts)) counts′ ≡ drop (length (rowsOf lengths counts)) counts
+  pub reply : answer ≡ censusAnswered f (censusOf f) (rowsOf lengths counts)
+  pub output : ColumnsFilled f lengths counts lengths′ counts′
 
--- of a census, the number of entries
-abbrev pub entriesOf : CensusAnswer → Answer
-entriesOf (census-is entries height longest) = length-is entries
-entriesOf (census-refused c) = refused c
-
--- the entries alone, in two lent lists of numbers: the reply is their number
+-- the reply where the rows are asked for alone: their number
 pub record ColumnsReplied (f lengths counts : List ℕ) (answer : Answer) (lengths′ counts′ : List ℕ) : Type 0 where
-  pub census : CensusAnswer
-  pub reply : answer ≡ entriesOf census
-  pub replied : RowsReplied f lengths counts census lengths′ counts′
+  pub reply : answer ≡ answered (rowsFound f) (rowsOf lengths counts)
+  pub output : ColumnsFilled f lengths counts lengths′ counts′
 
 -- of a census, the greatest distance of a point from its cycle alone, or the refusal of the table
 abbrev pub heightOf : List ℕ → Answer

@@ -4,8 +4,9 @@ use mathlib.Core.Path.{_≡_}
 use mathlib.Core.List.{List}
 use Prim.Native.Nat.{ℕ}
 use lib.IntN.{ℤ, pos, negℤ}
-use Rattle.patterns.specs.Replies.{Answer, length-is, last, lacking, refused, CensusAnswer}
-use Rattle.patterns.specs.Entry.{Outcome, answer, answered, filled, componentOf, IsomorphismReplied, RowsReplied, entriesOf}
+use Rattle.patterns.specs.Replies.{Answer, length-is, last, lacking, refused}
+use Rattle.patterns.specs.Census.{rowsOf}
+use Rattle.patterns.specs.Entry.{Outcome, answer, answered, filled, componentOf, IsomorphismReplied, rowsFound, ColumnsFilled}
 
 abbrev pub signedOf : Answer → ℤ
 signedOf (length-is n) = pos n
@@ -24,11 +25,10 @@ pub record IsomorphismReported (f g before : List ℕ) (r : ℤ) (after : List �
   pub number : r ≡ signedOf reply
   pub replied : IsomorphismReplied f g before reply after
 
--- the census entry replied with the number r
+-- the census entry replied with the number r and left the two columns so
 pub record CensusReported (f lengths counts : List ℕ) (r : ℤ) (lengths′ counts′ : List ℕ) : Type 0 where
-  pub reply : CensusAnswer
-  pub number : r ≡ signedOf (entriesOf reply)
-  pub replied : RowsReplied f lengths counts reply lengths′ counts′
+  pub number : r ≡ signedOf (answered (rowsFound f) (rowsOf lengths counts))
+  pub output : ColumnsFilled f lengths counts lengths′ counts′
 
 -- where the bytes of the component at position i begin and end in the code b, or the refusal
 abbrev pub componentStart : List ℕ → ℕ → Answer

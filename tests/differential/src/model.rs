@@ -22,17 +22,16 @@ impl Line<'_> {
     }
 }
 
-/// A census as the data has it: height, longest cycle, and the rows, here sorted.
+/// A census as the data has it: height, longest cycle, and the rows.
 fn census(side: &Side, table: &[u8], room: usize) -> (i64, Vec<u8>) {
     let (mut lengths, mut counts) = (vec![0; room], vec![0; room]);
     let reply = (side.census)(table, &mut lengths, &mut counts);
     if reply < 0 {
         return (reply, Vec::new());
     }
-    let mut rows: Vec<[u8; 2]> = lengths.into_iter().zip(counts).map(|(l, c)| [l, c]).take(reply as usize).collect();
-    rows.sort();
+    let rows = lengths.into_iter().zip(counts).take(reply as usize).flat_map(|(length, count)| [length, count]);
     let heads = [(side.height)(table) as u8, (side.longest_cycle)(table) as u8];
-    (reply, heads.into_iter().chain(rows.into_iter().flatten()).collect())
+    (reply, heads.into_iter().chain(rows).collect())
 }
 
 /// The reply to a case, and what was written.

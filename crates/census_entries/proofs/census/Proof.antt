@@ -154,7 +154,7 @@ module _ {M : Type 1} (𝓤 : URA M) (H : Heap 𝓤) (A : Atoms 𝓤) (W : Given
 
     goes-fill : ent 𝓤 (sep 𝓤 (sep 𝓤 (A .lft κ₁ q₁) (sem 𝓤 H A ftrue)) (sem 𝓤 H A (MutSlice (named 1) κ₁ T.the-row .own x (u ∷ [])))) (Fill 𝓤 H A mem run .pre to-fill)
     goes-fill =
-        qed W ((‵ (flft κ₁ q₁) ⊛ ‵ ftrue) ∷ ‵ (MutSlice (named 1) κ₁ T.the-row .own x (u ∷ [])) ∷ []) ∵ says ! (decided .few, decided .fits) $ frame ! $
+        qed W ((‵ (flft κ₁ q₁) ⊛ ‵ ftrue) ∷ ‵ (MutSlice (named 1) κ₁ T.the-row .own x (u ∷ [])) ∷ []) ∵ says ! (decided .rows-decided .few, decided .rows-decided .fits) $ frame ! $
         nothing ! $ owned ! usize (Is usize) (uint-makes 𝓤 H A W w64) (d .filled) _ (refl, filled-fits) $ fjoin ! $
         owned ! S.the-row (Is S.the-row) (LL.makes S.the-type S′.the-plain 𝓤 H A) (d .rows) _ rows-is $ fjoin ! $ move ! (1 ∷ 0 ∷ []) $ fjoin ! $ done !
 

@@ -2,9 +2,11 @@ use denote.Ref.{now}
 use mathlib.Core.Path.{subst}
 use Prim.Native.Nat.{min}
 use lib.ListN.{length}
+use Rattle.patterns.specs.Census.{rowsOf}
 use borrow.Author.Needs.{needs}
 use Rattle.census_entries.specs.Decisions.{Decided}
-use Rattle.census_entries.proofs.Columns.{columns-fit, columns-replied}
+use Rattle.map_theory.proofs.SideBySide.{rows-places}
+use Rattle.census_entries.proofs.Columns.{columns-fit, columns-filled}
 use Rattle.census_entries.proofs.census_columns.Statement.{statement}
 use Rattle.census_entries.proofs.census_columns.Tie as tie
 
@@ -23,12 +25,17 @@ decided c = subst (λ places. Decided (now (start c .args .table)) places (c .de
 put-columns-requires : tie.Need-put-columns-requires
 put-columns-requires c κs =
     let d = c .before .before in
-    columns-fit (now (start d .args .lengths)) (now (start d .args .counts)) (decided d)
+    columns-fit (now (start d .args .lengths)) (now (start d .args .counts)) (decided d .rows-decided)
 
 returns : tie.Need-returns
 returns c =
     let d = put c .before .before .before in
-    columns-replied (now (start d .args .lengths)) (now (start d .args .counts)) (decided d) (search needs) (search needs) (put c .put-columns .ensures)
+    let lengths = now (start d .args .lengths) in
+    let counts = now (start d .args .counts) in
+    record {
+      reply = decided d .reply (rowsOf lengths counts) (rows-places lengths counts);
+      output = columns-filled lengths counts (decided d .rows-decided) (search needs) (search needs) (put c .put-columns .ensures);
+    }
 
 pub census-columns-spec : {M : Type 1} → statement M
 census-columns-spec =

@@ -2,9 +2,11 @@ use denote.Ref.{now}
 use mathlib.Core.Path.{subst}
 use Prim.Native.Nat.{min}
 use lib.ListN.{length}
+use Rattle.patterns.specs.Census.{rowsOf}
 use borrow.Author.Needs.{needs}
 use Rattle.census_entries.specs.Decisions.{Chosen}
-use Rattle.census_entries.proofs.Columns.{columns-fit, columns-replied}
+use Rattle.map_theory.proofs.SideBySide.{rows-places}
+use Rattle.census_entries.proofs.Columns.{columns-fit, columns-filled}
 use Rattle.census_entries.proofs.cycle_columns.Statement.{statement}
 use Rattle.census_entries.proofs.cycle_columns.Tie as tie
 
@@ -23,17 +25,16 @@ chosen c = subst (λ places. Chosen (now (start c .args .table)) places (c .choo
 put-columns-requires : tie.Need-put-columns-requires
 put-columns-requires c κs =
     let k = c .before .before in
-    columns-fit (now (start k .args .lengths)) (now (start k .args .counts)) (chosen k .decided)
+    columns-fit (now (start k .args .lengths)) (now (start k .args .counts)) (chosen k .rows-decided)
 
 returns : tie.Need-returns
 returns c =
     let k = put c .before .before .before in
+    let lengths = now (start k .args .lengths) in
+    let counts = now (start k .args .counts) in
     record {
-      census = chosen k .answer;
-      reply = chosen k .reply;
-      replied =
-          columns-replied (now (start k .args .lengths)) (now (start k .args .counts)) (chosen k .decided) (search needs) (search needs)
-          (put c .put-columns .ensures);
+      reply = chosen k .reply (rowsOf lengths counts) (rows-places lengths counts);
+      output = columns-filled lengths counts (chosen k .rows-decided) (search needs) (search needs) (put c .put-columns .ensures);
     }
 
 pub cycle-columns-spec : {M : Type 1} → statement M
