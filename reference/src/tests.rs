@@ -85,6 +85,10 @@ fn census_and_components() {
     assert_eq!(census(&[1, 0, 2, 2], &mut lengths, &mut counts), 2);
     assert_eq!((lengths, counts), ([1, 2, 7], [1, 1, 7]));
     assert_eq!((height(&[1, 0, 2, 2]), longest_cycle(&[1, 0, 2, 2])), (1, 2));
+    // the cycles are met by falling length, and the rows come by rising length
+    let (mut lengths, mut counts) = ([7; 4], [7; 4]);
+    assert_eq!(census(&[1, 2, 0, 4, 3, 5], &mut lengths, &mut counts), 3);
+    assert_eq!((lengths, counts), ([1, 2, 3, 7], [1, 1, 1, 7]));
     let code = [3, 2, 1, 1, 1, 2, 1];
     assert_eq!((component_start(&code, 1), component_end(&code, 1)), (4, 7));
     assert_eq!(component_start(&code, 2), -9);

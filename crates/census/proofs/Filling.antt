@@ -6,10 +6,9 @@ use native.Mathlib.Omega.{arith}
 use native.Mathlib.Numerals.{add-one}
 use lib.ListN.{length, getD, take, drop, set, length-map, length-set}
 use lib.Seq.{take-suc, drop-cons, set-at, append-snoc, length-take-le}
-use Rattle.patterns.specs.Census.{Row}
+use Rattle.patterns.specs.Census.{Row, rowsOf}
 use Rattle.patterns.specs.declared.reply.Row.{Row as Entry}
 use Rattle.census.specs.declared.Rows.{Rows}
-use Rattle.patterns.specs.Census.{rowsOf}
 use Rattle.patterns.specs.Replies.{rowOf}
 use Rattle.census.specs.Entries.{rowIn}
 use Rattle.map_theory.proofs.SideBySide.{rows-length, rows-append}

@@ -1,16 +1,15 @@
 -- The rows of a census in two lent slices.
 use mathlib.Core.Path.{_≡_, refl, ap, ap₂, sym, _∙_, subst}
 use mathlib.Core.List.{List, _++_, map, append-assoc, map-append}
-use Prim.Native.Nat.{ℕ, suc, _+_, _-_, _≤_, _<_, min}
+use Prim.Native.Nat.{ℕ, suc, _+_, _≤_, _<_, min}
 use native.Mathlib.Omega.{arith}
 use native.Mathlib.Numerals.{add-one}
 use native.Mathlib.Nat.{le-of-lt, min-le-left, min-le-right}
 use lib.ListN.{length, take, drop, getD, set, length-append, length-take, length-drop}
-use lib.Seq.{take-suc, drop-cons, set-at, append-snoc, length-take-le, drop-drop, drop-at}
-use Rattle.patterns.specs.Census.{Row}
+use lib.Seq.{take-suc, drop-cons, set-at, append-snoc, length-take-le, drop-drop}
+use Rattle.patterns.specs.Census.{Row, rowsOf}
 use Rattle.patterns.specs.Entry.{ColumnsFilled}
 use Rattle.census.specs.declared.Rows.{Rows}
-use Rattle.patterns.specs.Census.{rowsOf}
 use Rattle.map_theory.proofs.SideBySide.{rows-lengths, rows-counts, first-list, second-list, rows-places, rows-drop}
 use Rattle.census_entries.specs.Decisions.{firstRows, RowsDecided}
 use Rattle.census_entries.specs.Columns.{ColumnsPut}

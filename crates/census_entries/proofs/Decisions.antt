@@ -1,7 +1,7 @@
 -- What the census entries decide, and that writing it keeps the promise.
 use mathlib.Core.Path.{_≡_, refl, ap, sym, _∙_}
 use mathlib.Core.Bool.{true, false}
-use mathlib.Core.List.{List, [], _++_, map}
+use mathlib.Core.List.{List, _++_, map}
 use Prim.Native.Nat.{ℕ, _≤_, _<_}
 use native.Mathlib.Omega.{arith}
 use lib.Dec.{leb}
@@ -25,7 +25,7 @@ use Rattle.census.specs.Rows.{rowsIn, RowsOf}
 use Rattle.map_theory.proofs.SideBySide.{rows-length}
 use Rattle.census_entries.specs.declared.Choice.{Choice}
 use Rattle.census_entries.specs.declared.Decision.{Decision}
-use Rattle.census_entries.specs.Decisions.{rowsFilled, RowsDecided, Refuses, Chosen, Decided}
+use Rattle.census_entries.specs.Decisions.{rowsFilled, Refuses, Chosen, Decided}
 
 -- what the census of a table finds, and that of none
 rows-found : (f : List ℕ) {rows : Rows} → checkedTable f ≡ done f → RowsOf f rows → censusOf f ≡ done (rowsIn rows)

@@ -7,14 +7,14 @@ use Prim.Native.Nat.{ℕ, _+_, _-_, _*_, _≤_, _<_, compare}
 use native.Mathlib.Nat.{mul-zero, mul-one, mul-add}
 use native.Mathlib.Omega.{arith}
 use lib.Dec.{leb, eqb}
-use borrow.Author.Tests.{leb-true, leb-false, eqb-true, eqb-false}
-use lib.ListN.{length, length-map}
+use borrow.Author.Tests.{leb-true, leb-false, eqb-true}
+use lib.ListN.{length}
 use Rattle.lists.specs.Order.{same}
-use Rattle.lists.specs.Select.{keep, gather, total, range, times, once}
+use Rattle.lists.specs.Select.{keep, gather, total, range, times}
 use Rattle.lists.proofs.Tests.{_∈_, by-test, either}
 use Rattle.lists.proofs.Permute.{perm-length, total-one, total-zero, total-add, total-same, total-mono, total-keep, total-map, total-gather}
-use Rattle.lists.proofs.Members.{NoDup, compare-decides, in-head, in-tail, in-cons-cases, not-in-nil, in-map, of-map, of-keep, in-range, of-range, in-once, of-once, nodup-keep, nodup-range, nodup-once}
-use Rattle.lists.proofs.Places.{times-out, times-in, in-of-times, times-nodup, nodup-times}
+use Rattle.lists.proofs.Members.{NoDup, in-head, in-tail, in-cons-cases, not-in-nil, in-map, of-map, of-keep, in-range, of-range, nodup-keep, nodup-range}
+use Rattle.lists.proofs.Places.{times-in, in-of-times, times-nodup}
 use Rattle.lists.proofs.Pigeon.{inside-rest, same-members-perm, nodup-below-length}
 use Rattle.patterns.specs.Table.{onCycle, cycleFrom, leaders}
 use Rattle.patterns.specs.Census.{greatest, cycleLengths, cyclesOf, stepsToCycle, height, longestCycle}

@@ -9,11 +9,11 @@ use lib.Dec.{eqb}
 use borrow.Author.Tests.{eqb-true, eqb-false, ne-eqb}
 use lib.ListN.{length, length-map}
 use Rattle.lists.specs.Order.{same}
-use Rattle.lists.specs.Select.{keep, range, times}
+use Rattle.lists.specs.Select.{range, times}
 use Rattle.lists.proofs.Tests.{_∈_, by-test, not-of-true}
 use Rattle.lists.proofs.Comparison.{compare-lawful, lt-not-eq}
 use Rattle.lists.proofs.Permute.{perm-length, total-map, total-same}
-use Rattle.lists.proofs.Members.{NoDup, in-list, in-range, in-keep, of-keep}
+use Rattle.lists.proofs.Members.{NoDup, in-range, in-keep, of-keep}
 use Rattle.lists.proofs.Places.{times-out, times-in, in-of-times, times-nodup}
 use Rattle.lists.proofs.Pigeon.{inside-rest}
 use Rattle.lists.proofs.Rising.{Rising, rising-keep, rising-range, rising-nodup, rising-unique}

@@ -4,7 +4,7 @@ use mathlib.Core.List.{List, [], _∷_, _++_, map}
 use Prim.Native.Nat.{ℕ, zero, suc, min}
 use native.Mathlib.Omega.{arith}
 use native.Mathlib.Nat.{zero-min, min-zero, suc-min-suc}
-use lib.ListN.{length, take, drop, length-map}
+use lib.ListN.{length, drop, length-map}
 use Rattle.patterns.specs.Census.{Row, rowsOf}
 
 pub rows-lengths : (a b : List ℕ) → length a ≡ length b → map (λ (r : Row). r .cycleLength) (rowsOf a b) ≡ a

@@ -4,7 +4,6 @@ use Prim.Native.Nat.{ℕ}
 use borrow.Author.Needs.{needs}
 use Rattle.tables.specs.Tables.{Table}
 use Rattle.census.specs.Rows.{RowsOf}
-use Rattle.census_entries.specs.Decisions.{Chosen}
 use Rattle.census_entries.proofs.Decisions.{decided-refused, decided-counted}
 use Rattle.census_entries.proofs.decide.Statement.{statement}
 use Rattle.census_entries.proofs.decide.Tie as tie
