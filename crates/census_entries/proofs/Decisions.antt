@@ -27,14 +27,14 @@ use Rattle.census_entries.specs.declared.Choice.{Choice}
 use Rattle.census_entries.specs.declared.Decision.{Decision}
 use Rattle.census_entries.specs.Decisions.{rowsFilled, Refuses, Chosen, Decided}
 
--- what the census of a table finds, and that of none
-rows-found : (f : List ℕ) {rows : Rows} → checkedTable f ≡ done f → RowsOf f rows → censusOf f ≡ done (rowsIn rows)
+-- the census of a table, and of what is none
+census-done : (f : List ℕ) {rows : Rows} → checkedTable f ≡ done f → RowsOf f rows → censusOf f ≡ done (rowsIn rows)
 unfolding censusOf
-rows-found f e w = rw e (ap done (sym (w .rows-are)))
+census-done f e w = rw e (ap done (sym (w .rows-are)))
 
-none-found : (f : List ℕ) {cause : Refusal} → checkedTable f ≡ fault cause → censusOf f ≡ fault cause
+census-fault : (f : List ℕ) {cause : Refusal} → checkedTable f ≡ fault cause → censusOf f ≡ fault cause
 unfolding censusOf
-none-found f e = rw e
+census-fault f e = rw e
 
 -- a choice that refuses, where the census has that refusal for every list of so many places
 refused-choice : {f : List ℕ} {cause : Refusal} (places : ℕ) {c : Choice} → Refuses cause c
@@ -54,7 +54,7 @@ refused-choice {f} {cause} places r h =
 
 -- a bad table
 pub chosen-refused : (f : List ℕ) (cause : Refusal) → checkedTable f ≡ fault cause → (places : ℕ) {c : Choice} → Refuses cause c → Chosen f places c
-chosen-refused f cause e places r = refused-choice places r (λ before l. rw (none-found f e) (refl, refl))
+chosen-refused f cause e places r = refused-choice places r (λ before l. rw (census-fault f e) (refl, refl))
 
 module _ (f : List ℕ) (e : checkedTable f ≡ done f) (rows : Rows) (w : RowsOf f rows) (lengths-all : length (rows .lengths) ≡ 19)
     (counts-all : length (rows .counts) ≡ 19) (places : ℕ) where
@@ -71,7 +71,7 @@ module _ (f : List ℕ) (e : checkedTable f ≡ done f) (rows : Rows) (w : RowsO
       refused-choice places r
       (λ before l.
       let test : leb (length (rowsIn rows)) (length before) ≡ false = lt-leb (length (rowsIn rows)) (length before) (omega (arith, rows-many)) in
-      rw (rows-found f e w) (rw test (refl, refl)))
+      rw (census-done f e w) (rw test (refl, refl)))
 
   -- all rows are written
   pub chosen-fits : rows .rows ≤ places → Chosen f places (record { rows = rows; filled = rows .rows; reply = Length (rows .rows) })
@@ -83,44 +83,44 @@ module _ (f : List ℕ) (e : checkedTable f ≡ done f) (rows : Rows) (w : RowsO
             record {
               few = w .few;
               fits = h;
-              output = λ before l. rw (rows-found f e w) (rw (test before l) (ap (λ j. rowsIn rows ++ drop j before) (sym rows-many)));
+              output = λ before l. rw (census-done f e w) (rw (test before l) (ap (λ j. rowsIn rows ++ drop j before) (sym rows-many)));
             };
-        reply = λ before l. rw (rows-found f e w) (rw (test before l) (ap length-is (sym rows-many)));
+        reply = λ before l. rw (census-done f e w) (rw (test before l) (ap length-is (sym rows-many)));
         counted = λ n q. (checked-table f e, w);
       }
 
 -- the whole answer beside the number of rows, or the same refusal
 module _ (f : List ℕ) (before : List Row) where
-  refusal-told : (o : Result (List Row)) {cause : ℕ} → refused cause ≡ answered (outcome o gives) before → census-refused cause ≡ censusAnswered f o before
-  refusal-told (done rows) {cause} e =
+  refusal-answered : (o : Result (List Row)) {cause : ℕ} → refused cause ≡ answered (outcome o gives) before → census-refused cause ≡ censusAnswered f o before
+  refusal-answered (done rows) {cause} e =
       by-test (leb (length rows) (length before))
       (λ t. let k : refused cause ≡ length-is (length rows) = e ∙ rw t in clash cc)
       (λ t. let k : refused cause ≡ refused (numberOf Room) = e ∙ rw t in let z : cause ≡ numberOf Room = cc in rw t (ap census-refused z))
-  refusal-told (fault c) {cause} e = let z : cause ≡ numberOf c = cc in ap census-refused z
+  refusal-answered (fault c) {cause} e = let z : cause ≡ numberOf c = cc in ap census-refused z
 
-  number-told : (o : Result (List Row)) {n : ℕ} → length-is n ≡ answered (outcome o gives) before
+  number-answered : (o : Result (List Row)) {n : ℕ} → length-is n ≡ answered (outcome o gives) before
       → census-is n (height (length f) (image f)) (longestCycle (length f) (image f)) ≡ censusAnswered f o before
-  number-told (done rows) {n} e =
+  number-answered (done rows) {n} e =
       by-test (leb (length rows) (length before))
       (λ t.
       let k : length-is n ≡ length-is (length rows) = e ∙ rw t in
       let z : n ≡ length rows = cc in
       rw t (ap (λ m. census-is m (height (length f) (image f)) (longestCycle (length f) (image f))) z))
       (λ t. let k : length-is n ≡ refused (numberOf Room) = e ∙ rw t in clash cc)
-  number-told (fault c) e = clash cc
+  number-answered (fault c) e = clash cc
 
 -- a choice completed by what it does not tell
 module _ {f : List ℕ} {places : ℕ} {c : Choice} (k : Chosen f places c) where
   pub decided-refused : {cause : Refusal} → c .reply ≡ Refused cause → Decided f places (record { rows = c .rows; filled = c .filled; reply = NotCounted cause })
   decided-refused e =
-      record { rows-decided = k .rows-decided; reply = λ before l. refusal-told f before (censusOf f) (ap answerOf (sym e) ∙ k .reply before l) }
+      record { rows-decided = k .rows-decided; reply = λ before l. refusal-answered f before (censusOf f) (ap answerOf (sym e) ∙ k .reply before l) }
 
   pub decided-counted : {n h l : ℕ} → c .reply ≡ Length n → h ≡ height (length f) (image f) → l ≡ longestCycle (length f) (image f)
       → Decided f places (record { rows = c .rows; filled = c .filled; reply = Counted n h l })
   decided-counted e p q =
       record {
         rows-decided = k .rows-decided;
-        reply = λ before l. rw (p, q) (number-told f before (censusOf f) (ap answerOf (sym e) ∙ k .reply before l));
+        reply = λ before l. rw (p, q) (number-answered f before (censusOf f) (ap answerOf (sym e) ∙ k .reply before l));
       }
 
 -- what was decided is written into a list of structs

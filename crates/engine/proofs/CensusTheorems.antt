@@ -35,19 +35,19 @@ rows-found f {rows} e =
     (λ u. let k : fails Image ≡ gives rows = sym (rw (t, u)) ∙ e in clash cc))
 
 -- the number of rows beside the other two numbers of a census
-rows-told : (f : List ℕ) (before : List Row) {k h l : ℕ} (o : Result (List Row)) → census-is k h l ≡ censusAnswered f o before
+number-of-rows : (f : List ℕ) (before : List Row) {k h l : ℕ} (o : Result (List Row)) → census-is k h l ≡ censusAnswered f o before
     → length-is k ≡ answered (outcome o gives) before
-rows-told f before {k} {h} {l} (done rows) e =
+number-of-rows f before {k} {h} {l} (done rows) e =
     by-test (leb (length rows) (length before))
     (λ t. let q = rw t at e in let z : k ≡ length rows = cc in rw t (ap length-is z))
     (λ t. let q : census-is k h l ≡ census-refused 8 = e ∙ rw t in clash cc)
-rows-told f before (fault c) e = clash cc
+number-of-rows f before (fault c) e = clash cc
 
 -- What "census" writes into a list of rows.
 module _ {f : List ℕ} {before after : List Row} {k h l : ℕ} (p : CensusReplied f before (census-is k h l) after) where
   census-found : (checkedTable f ≡ done f) × (take k after ≡ censusRows (length f) (image f)) × (k ≡ length (censusRows (length f) (image f)))
   census-found =
-      let r = result-written (rowsFound f) {before = before} {after = after} (record { reply = rows-told f before (censusOf f) (p .reply); output = p .output }) in
+      let r = result-written (rowsFound f) {before = before} {after = after} (record { reply = number-of-rows f before (censusOf f) (p .reply); output = p .output }) in
       let s = rows-found f (r .1) in
       (s .0, r .3 ∙ s .1, r .2 ∙ ap length (s .1))
 
