@@ -4,9 +4,10 @@
  * A map of n points, n at most 200, is a table of n bytes: byte i is the image of point i, points counted from 0. A code is the written code of a
  * pattern; 1,000 bytes hold every code.
  *
- * Replies. Every function answers one number, an int64_t; test it for less than 0 before it becomes a size_t. 0 or more is what the function's comment says, and
- * never more than 1,000. From -1 to -99 it is a refusal, minus the number of its cause. -100 and -101 are answers too, and no refusals. A result fills the first
- * places of its buffer, and every other byte of every buffer is kept; with a negative reply all of them are.
+ * Replies. Every function but lethmuok_page answers one number, an int64_t, and lethmuok_page two of them; test a number for less than 0 before it becomes a size_t.
+ * 0 or more is what the function's comment says, and never more than 1,000, the bytes of a page never more than 1,000,000. From -1 to -99 it is a refusal, minus the
+ * number of its cause; lethmuok_page has it in both numbers. -100 and -101 are answers too, and no refusals. A result fills the first places of its buffer, and every
+ * other byte of every buffer is kept; with a negative reply all of them are.
  *
  * Buffers. Each is a pointer and a count of bytes, all of which must be there to be read, and in an output to be written.
  * - No pointer may be null, not even where the count is 0: for a table of no points, or to lend no room, pass the address of any object and the count 0.
@@ -38,12 +39,20 @@ enum {
     LETHMUOK_TRAILING = -7,      /* there are numbers after the code */
     LETHMUOK_ROOM = -8,          /* the output is shorter than the result */
     LETHMUOK_POSITION = -9,      /* the code has no component at that position */
+    LETHMUOK_WANTED = -10,       /* more than 1,000 codes are wanted */
     LETHMUOK_LAST = -100,        /* no code follows in the list */
     LETHMUOK_NONE = -101         /* there is no isomorphism */
 };
 
-/* What always suffices: points of a map, bytes of a code, entries of a census. */
-enum { LETHMUOK_MAX_POINTS = 200, LETHMUOK_MAX_CODE = 1000, LETHMUOK_MAX_ENTRIES = 19 };
+/* What always suffices: points of a map, bytes of a code, entries of a census. And the most codes that may be wanted of a page, which LETHMUOK_MAX_WANTED times
+ * LETHMUOK_MAX_CODE bytes always hold. */
+enum { LETHMUOK_MAX_POINTS = 200, LETHMUOK_MAX_CODE = 1000, LETHMUOK_MAX_ENTRIES = 19, LETHMUOK_MAX_WANTED = 1000 };
+
+/* The reply of lethmuok_page: how many codes it wrote, and how many bytes they take together. A refusal stands in both. */
+typedef struct {
+    int64_t codes;
+    int64_t bytes;
+} lethmuok_page_reply;
 
 /* Whether these bytes are a code; answers its number of points. */
 int64_t lethmuok_accept(const uint8_t *code, size_t code_len);
@@ -53,6 +62,10 @@ int64_t lethmuok_first(size_t n, uint8_t *out, size_t out_len);
 
 /* Writes the code that follows in the list; answers its length, or LETHMUOK_LAST. */
 int64_t lethmuok_successor(const uint8_t *code, size_t code_len, uint8_t *out, size_t out_len);
+
+/* Writes the codes that follow in the list, one after another with nothing between them, as many as are wanted, or fewer where the list ends. LETHMUOK_WANTED is
+ * told before every fault of the code; where the whole page does not fit, nothing is written, and LETHMUOK_ROOM is told after them all. */
+lethmuok_page_reply lethmuok_page(const uint8_t *code, size_t code_len, size_t wanted, uint8_t *out, size_t out_len);
 
 /* Writes the code of a map; answers its length. */
 int64_t lethmuok_code_of_map(const uint8_t *table, size_t n, uint8_t *out, size_t out_len);

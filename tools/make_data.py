@@ -12,8 +12,9 @@ TOP = os.path.join(os.path.dirname(os.path.realpath(__file__)), "..")
 KEPT = os.path.join(TOP, "crates", "checks", "data")
 MADE = KEPT if sys.argv[1:] == ["--write"] else os.path.join(TOP, "target", "checks-data")
 ACCEPT, FIRST, SUCCESSOR, CODE_OF_MAP, MAP_OF_CODE, ISOMORPHISM, CENSUS = range(1, 8)
-KINDS = {"length": 0, "last": 1, "none": 2, "refused": 3, "census": 0, "part": 0}
+KINDS = {"length": 0, "last": 1, "none": 2, "refused": 3, "census": 0, "part": 0, "page": 0}
 WIDE = 1000
+WIDEST = 10000
 
 
 class Numbers:
@@ -95,6 +96,12 @@ def component(code, position):
     kind, result = model.component(code, position)
     value, part = result if kind == "part" else (result, [])
     return stretch(code) + [position, KINDS[kind], value] + stretch(part)
+
+
+def page(code, wanted, room=WIDEST):
+    kind, result = model.page(code, wanted, room)
+    value, output = result if kind == "page" else (result, [])
+    return stretch(code) + [wanted, room, KINDS[kind], value, len(output)] + stretch(output)
 
 
 def save(name, lines):
@@ -420,6 +427,104 @@ def components():
     return lines
 
 
+# ---- pages
+
+
+def paged(code, wanted):
+    """How many codes the page has, and its bytes, whatever the room."""
+    kind, result = model.page(code, wanted, float("inf"))
+    assert kind == "page", code
+    return result
+
+
+def pages_of(code, wanted, *rooms):
+    """The page with rooms beside its length: 0 is just enough."""
+    return [page(code, wanted, len(paged(code, wanted)[1]) + more) for more in rooms]
+
+
+def page_examples():
+    """Paper 2 of document 02 on the list of 3 points, with the answers that its words give."""
+    def given(line, kind, value, output=()):
+        assert line[-len(stretch(output)) - 3 :] == [KINDS[kind], value, len(output)] + stretch(output), line
+        return line
+
+    code, last = [3, 2, 1, 1, 1, 2, 1], [3, 1, 2, 1, 2, 1]
+    two = [3, 1, 3, 1, 1, 1, 3, 1, 1, 3, 2, 1]
+    rest = two + [3, 1, 1, 3, 1, 1] + last
+    lines = [given(page(code, 2), "page", 2, two), given(page(code, 2, 12), "page", 2, two), given(page(code, 2, 11), "refused", 8)]
+    # fewer than wanted only if "last" was reached, and none after the last
+    lines += [given(page(code, wanted, 24), "page", 4, rest) for wanted in (4, 5, 1000)]
+    lines += [given(page(code, 0, 0), "page", 0), given(page(last, 1000, 0), "page", 0), given(page([0, 0], 1000, 0), "page", 0)]
+    # 10 first of all, then the code's own checks, then 8
+    lines += [given(page(bad, 1001, 0), "refused", 10) for bad in (code, [], [3, 1, 2, 2, 1, 1])]
+    lines += [given(page([], 1000, 0), "refused", 3), given(page([3, 1, 2, 2, 1, 1], 0, 0), "refused", 6), given(page(code, 1, 0), "refused", 8)]
+    return lines
+
+
+def small_pages():
+    """Every code of up to 4 points with every wanted number that tells something, and every room; from 3 points on the rooms take turns."""
+    lines = []
+    for n in range(5):
+        listing = [plain_listing.numbers(n, system) for system in plain_listing.systems(n)]
+        for i, code in enumerate(listing):
+            left = listing[i + 1 :]
+            assert paged(code, 1000) == (len(left), [x for following in left for x in following])
+            for j, wanted in enumerate(sorted({0, 1, 2, 3, len(left), len(left) + 1, 1000})):
+                length = sum(map(len, left[:wanted]))
+                rooms = [length, max(0, length - 1), length + 1 + i, len(left[0]) if left else WIDEST, 0]
+                lines += [page(code, wanted, room) for room in (sorted(set(rooms)) if n < 3 else [rooms[(i + j) % len(rooms)]])]
+    return lines
+
+
+def refused_pages():
+    """Codes with a fault of their own, and numbers above 1,000, which come first."""
+    code = [8, 3, 2, 1, 1, 1, 3, 2, 1, 2, 1, 2, 1]
+    faults = [[201, 1], [], [128], code[:-1], [129, 0], [128, 128], [0, 1], [1, 0], [2, 1, 1, 1, 9], [3, 1, 2, 2, 1, 1], [3, 2, 2, 1, 1, 1, 1], code + [1]]
+    lines = [page(fault, wanted, room) for fault in faults for wanted, room in ((0, 0), (1, WIDE), (1000, 0))]
+    for wanted in (1001, 1002, 65536, 2**32 + 1, 2**64 - 1):
+        lines += [page(given, wanted, room) for given in (code, [3, 1, 2, 2, 1, 1], [201, 1]) for room in (0, WIDE)]
+    return lines
+
+
+def pages():
+    lines = page_examples() + small_pages() + refused_pages()
+    # over the end of a list of sizes
+    for n in range(5, 8):
+        listing = list(plain_listing.systems(n))
+        for system, following in zip(listing, listing[1:]):
+            if list(map(model.points, system)) != list(map(model.points, following)):
+                lines += pages_of(model.written(system), 1 + len(lines) % 3, 0)
+    eight = [plain_listing.numbers(8, system) for system in plain_listing.systems(8)]
+    whole = max(k for k in range(1000) if sum(map(len, eight[1 : 1 + k])) <= WIDEST)
+    lines += pages_of(eight[0], whole, 0, -1)
+    lines += pages_of(eight[400], 150, 7, -1) + pages_of(eight[-200], 200, 0) + pages_of(eight[-101], 1000, 0, -1)
+    return lines
+
+
+def near_last(n, left):
+    """A code of n points after which so many are left: a star on a cycle, which loses two leaves with each."""
+    code = model.written([model.cycle(n - 2 - 2 * left) + ((2 + 2 * left,) + (1,) * (1 + 2 * left),)])
+    assert paged(code, left + 1)[0] == left
+    return code
+
+
+def pages_long():
+    """Codes of 128 and 200 points, whose numbers are of one and two bytes: every map of 200 points that is not random, and one that is."""
+    lines = []
+    for i, (_, table) in enumerate(shapes()[:20]):
+        code = model.code_of_map(table, WIDE)[1]
+        wanted = 12 if i == 19 else 2 + i % 4 // 2
+        lines += pages_of(code, wanted, i) if i % 2 else pages_of(code, wanted, 0, -1)
+    for shape, wanted in ((path_map(128), 4), (star(128), 7), (cycle_map(128), 3), (random_map(Numbers(19), 128), 12)):
+        lines += pages_of(model.code_of_map(shape, WIDE)[1], wanted, 0, -1)
+    for n in (128, 200):
+        lines += pages_of(near_last(n, 0), 0, 0) + pages_of(near_last(n, 0), 1, 0) + pages_of(near_last(n, 0), 1000, 0)
+        lines += pages_of(near_last(n, 3), 1000, 0, -1)
+    # both components are the last of 100 points, so the list of sizes ends
+    lines += pages_of(model.written([model.cycle(98) + ((2, 1),)] * 2), 3, 0, -1)
+    return lines
+
+
 def pairs():
     numbers = Numbers(17)
     return [stretch(table) + stretch(renamed(table, numbers.shuffled(200))) for _, table in shapes()]
@@ -432,7 +537,7 @@ def main():
     files = [(f"listing_{n}", [[line] for line in plain_listing.listing(n)]) for n in range(9)]
     files += [("examples", examples()), ("damaged", damaged()), ("damaged_long", damaged_long()), ("reordered", reordered()), ("hostile", hostile())]
     files += [("rooms", rooms()), ("steps", steps()), ("codes", codes_of_maps()), ("census", censuses())]
-    files += [("components", components()), ("pairs", pairs())]
+    files += [("components", components()), ("pages", pages()), ("pages_long", pages_long()), ("pairs", pairs())]
     other = sum(not save(name, lines) for name, lines in files)
     print(f"{len(files)} files in {os.path.relpath(MADE)}, {other} not as in crates/checks/data")
     return 1 if other else 0

@@ -1,13 +1,15 @@
-"""The entries of the engine, each written from the words of document 01 and by other means than the engine: trees are tuples of numbers, components tuples of
-trees, children are all candidate merges that pass the definition's tests, and nothing is fast. tools/make_data.py takes from here what the checks expect.
+"""The entries of the engine, each written from the words of documents 01 and 02 and by other means than the engine: trees are tuples of numbers, components tuples
+of trees, children are all candidate merges that pass the definition's tests, and nothing is fast. tools/make_data.py takes from here what the checks expect.
 
-An answer is a pair: ("length", list of numbers), ("last", None), ("none", None) or ("refused", number of the cause).
+An answer is a pair: ("length", list of numbers), ("last", None), ("none", None) or ("refused", number of the cause). What has more to say than a length has a word
+of its own: "census", "part" and "page".
 """
 import functools
 
 from plain_listing import components_of_map, least_rotation, merges, parent, parts, tree_code
 
-COUNT, IMAGE, TRUNCATED, NUMBER_FORM, SIZES, NOT_CANONICAL, TRAILING, ROOM, POSITION = range(1, 10)
+COUNT, IMAGE, TRUNCATED, NUMBER_FORM, SIZES, NOT_CANONICAL, TRAILING, ROOM, POSITION, WANTED = range(1, 11)
+MOST_WANTED = 1000
 
 
 class Refused(Exception):
@@ -114,6 +116,7 @@ def is_component(c):
     return all(map(is_tree, c)) and least_rotation(list(c)) == c
 
 
+@functools.lru_cache(None)
 def children(c):
     """The candidates, in order, that are valid codes with this parent; one already met is skipped."""
     found = []
@@ -306,6 +309,26 @@ def successor(code, room):
         return None if following is None else written(following)
 
     return replied(work, room)
+
+
+def page(code, wanted, room):
+    """How many codes are written, and their bytes one after another: those of successor calls made in turn, until enough are written or one says "last". Or a
+    refusal: 10 first of all, then the code's own, then 8."""
+    if wanted > MOST_WANTED:
+        return "refused", WANTED
+    kind, cause = accept(code)
+    if kind == "refused":
+        return kind, cause
+    codes, whole = 0, []
+    while codes < wanted:
+        kind, code = successor(code, None)
+        if kind == "last":
+            break
+        codes += 1
+        whole += code
+    if len(whole) > room:
+        return "refused", ROOM
+    return "page", (codes, whole)
 
 
 def code_of_map(table, room):

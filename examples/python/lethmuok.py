@@ -24,11 +24,13 @@ CAUSES = {
     7: "there are numbers after the code",
     8: "the output is shorter than the result",
     9: "the code has no component at that position",
+    10: "more than 1,000 codes are wanted",
 }
 _LAST = -100
 _NONE = -101
 _MAX_CODE = 1000
 _MAX_ENTRIES = 19
+_MAX_WANTED = 1000
 
 
 class Refused(ValueError):
@@ -70,17 +72,31 @@ def _given(data):
     return buffer
 
 
-def _call(name, *arguments):
-    """Calls a function of the library: a count is passed as it is, a buffer as its address and its length."""
+class _PageReply(ctypes.Structure):
+    """How many codes a page has, and how many bytes they take together; a refusal stands in both."""
+
+    _fields_ = [("codes", ctypes.c_int64), ("bytes", ctypes.c_int64)]
+
+
+def _reply(kind, name, *arguments):
+    """The reply of a function of the library: a count is passed as it is, a buffer as its address and its length."""
     flat = []
     for argument in arguments:
         flat += [argument] if isinstance(argument, ctypes.c_size_t) else [argument, ctypes.c_size_t(len(argument))]
     function = getattr(_c, name)
-    function.restype = ctypes.c_int64
-    reply = function(*flat)
-    if _LAST < reply < 0:
-        raise Refused(-reply)
-    return reply
+    function.restype = kind
+    return function(*flat)
+
+
+def _unrefused(number):
+    if _LAST < number < 0:
+        raise Refused(-number)
+    return number
+
+
+def _call(name, *arguments):
+    """Calls a function of the library that answers one number."""
+    return _unrefused(_reply(ctypes.c_int64, name, *arguments))
 
 
 def accept(code):
@@ -99,6 +115,14 @@ def successor(code):
     out = _room(_MAX_CODE)
     reply = _call("lethmuok_successor", _given(code), out)
     return None if reply == _LAST else bytes(out[:reply])
+
+
+def page(code, wanted):
+    """The codes that follow in the list, as many as are wanted, or fewer where the list ends: how many they are, and their bytes one after another."""
+    count = _count(wanted)
+    out = _room(_MAX_CODE * min(count.value, _MAX_WANTED))
+    reply = _reply(_PageReply, "lethmuok_page", _given(code), count, out)
+    return _unrefused(reply.codes), bytes(out[: reply.bytes])
 
 
 def code_of_map(table):

@@ -28,9 +28,10 @@ causes! {
     Trailing = 7, "there are numbers after the code";
     Room = 8, "the output is shorter than the result";
     Position = 9, "the code has no component at that position";
+    Wanted = 10, "more than 1,000 codes are wanted";
 }
 
-/// What every function answers. A result fills the first places of its buffer; with another reply than a number all buffers are kept.
+/// What every function answers but `page` and `component`. A result fills the first places of its buffer; with another reply than a number all buffers are kept.
 #[derive(Clone, Copy, Debug, PartialEq, Eq)]
 pub enum Reply {
     /// the length of what was written, or the number that was asked for
@@ -42,15 +43,30 @@ pub enum Reply {
     Refused(Refusal),
 }
 
-/// 1,000 bytes hold every code, 19 entries every census.
+/// What `page` answers where it is not refused: how many codes it wrote, and how many bytes they take together.
+#[derive(Clone, Copy, Debug, PartialEq, Eq)]
+pub struct Page {
+    pub codes: usize,
+    pub bytes: usize,
+}
+
+/// 1,000 bytes hold every code, 19 entries every census. No more than 1,000 codes may be wanted, which `MAX_WANTED * MAX_CODE` bytes hold.
 pub const MAX_CODE: usize = 1000;
 pub const MAX_ENTRIES: usize = 19;
+pub const MAX_WANTED: usize = 1000;
 
 mod c {
+    #[repr(C)]
+    pub struct PageReply {
+        pub codes: i64,
+        pub bytes: i64,
+    }
+
     extern "C" {
         pub fn lethmuok_accept(code: *const u8, code_len: usize) -> i64;
         pub fn lethmuok_first(n: usize, out: *mut u8, out_len: usize) -> i64;
         pub fn lethmuok_successor(code: *const u8, code_len: usize, out: *mut u8, out_len: usize) -> i64;
+        pub fn lethmuok_page(code: *const u8, code_len: usize, wanted: usize, out: *mut u8, out_len: usize) -> PageReply;
         pub fn lethmuok_code_of_map(table: *const u8, n: usize, out: *mut u8, out_len: usize) -> i64;
         pub fn lethmuok_map_of_code(code: *const u8, code_len: usize, out: *mut u8, out_len: usize) -> i64;
         pub fn lethmuok_isomorphism(f: *const u8, f_len: usize, g: *const u8, g_len: usize, out: *mut u8, out_len: usize) -> i64;
@@ -88,6 +104,16 @@ pub fn first(n: usize, out: &mut [u8]) -> Reply {
 /// Writes the code that follows in the list, or says `Last`.
 pub fn successor(code: &[u8], out: &mut [u8]) -> Reply {
     unsafe { c::lethmuok_successor(code.as_ptr(), code.len(), out.as_mut_ptr(), out.len()) }.into()
+}
+
+/// Writes the codes that follow in the list, one after another with nothing between them, as many as are wanted, or fewer where the list ends.
+pub fn page(code: &[u8], wanted: usize, out: &mut [u8]) -> Result<Page, Refusal> {
+    let reply = unsafe { c::lethmuok_page(code.as_ptr(), code.len(), wanted, out.as_mut_ptr(), out.len()) };
+    match (reply.codes.into(), reply.bytes.into()) {
+        (Reply::Number(codes), Reply::Number(bytes)) => Ok(Page { codes, bytes }),
+        (Reply::Refused(cause), _) => Err(cause),
+        _ => unreachable!("the library has no other answers"),
+    }
 }
 
 /// Writes the code of a map.

@@ -1,10 +1,10 @@
-//! The entries, each with its order of checks (document 01, "Refusing").
+//! The entries, each with its order of checks (document 01, "Refusing"; document 02).
 
 use crate::component::Component;
 use crate::map::{checked, cycle_lengths, height as height_of, map_of_system, system_of_map};
 use crate::system::{accepted, successor as next};
 use crate::written::write;
-use crate::{Cause, MOST_POINTS};
+use crate::{Cause, MOST_POINTS, MOST_WANTED};
 
 /// The reply of a successor entry to the last code of its count.
 pub const LAST: i64 = -100;
@@ -38,6 +38,35 @@ pub fn successor(code: &[u8], out: &mut [u8]) -> i64 {
         None => Ok(LAST),
         Some(following) => put(&write(&following).0, out),
     }))
+}
+
+/// The reply of a page: how many codes it has, and how many bytes. A refusal stands in both.
+#[repr(C)]
+#[derive(Clone, Copy, Debug, PartialEq, Eq)]
+pub struct PageReply {
+    pub codes: i64,
+    pub bytes: i64,
+}
+
+/// The codes that follow, at most so many, one after another: how many they are, and their bytes.
+fn following(code: &[u8], wanted: usize) -> Result<(i64, Vec<u8>), Cause> {
+    if wanted > MOST_WANTED {
+        return Err(Cause::Wanted);
+    }
+    let mut system = accepted(code)?;
+    let (mut codes, mut bytes) = (0, Vec::new());
+    for _ in 0..wanted {
+        let Some(after) = next(&system) else { break };
+        bytes.extend(write(&after).0);
+        codes += 1;
+        system = after;
+    }
+    Ok((codes, bytes))
+}
+
+pub fn page(code: &[u8], wanted: usize, out: &mut [u8]) -> PageReply {
+    let written = following(code, wanted).and_then(|(codes, bytes)| Ok((codes, put(&bytes, out)?)));
+    PageReply { codes: reply(written.map(|(codes, _)| codes)), bytes: reply(written.map(|(_, bytes)| bytes)) }
 }
 
 pub fn code_of_map(table: &[u8], out: &mut [u8]) -> i64 {

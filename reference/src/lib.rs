@@ -1,4 +1,4 @@
-//! The entries of document 01 once more, with vectors and without proofs: written from that paper and from document 004 (Defrain, Porreca, Timofeeva:
+//! The entries of documents 01 and 02 once more, with vectors and without proofs: written from these papers and from document 004 (Defrain, Porreca, Timofeeva:
 //! Polynomial-delay generation of functional digraphs up to isomorphism), by the algorithm that it publishes. `tests/run` compares its answers with those of the
 //! engine, and `bench/run` times the two beside each other.
 //!
@@ -6,7 +6,7 @@
 //! notes on the definitions and on how unclear places are read as the authors of the definitions, so a misreading that stands in those notes would stand in both, and
 //! no comparison would show it. The published examples, lists and totals, which both are held against, guard against that.
 //!
-//! A reply is a length or n, minus the number of the cause of a refusal, or one of [`LAST`] and [`NONE`].
+//! A reply is a length or n, minus the number of the cause of a refusal, or one of [`LAST`] and [`NONE`]; that of a page is two numbers, [`PageReply`].
 
 mod component;
 mod entries;
@@ -20,7 +20,7 @@ mod tests;
 
 pub use entries::*;
 
-/// Causes of refusal, numbered as in document 01.
+/// Causes of refusal, numbered as in document 01, and from 10 on as in document 02.
 #[derive(Clone, Copy, Debug, PartialEq, Eq)]
 pub enum Cause {
     Count = 1,
@@ -32,7 +32,11 @@ pub enum Cause {
     Trailing = 7,
     Room = 8,
     Position = 9,
+    Wanted = 10,
 }
 
 /// The most points that a map may have.
 pub const MOST_POINTS: usize = 200;
+
+/// The most codes that may be wanted of a page.
+pub const MOST_WANTED: usize = 1000;

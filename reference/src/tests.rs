@@ -1,4 +1,4 @@
-//! The examples and totals of document 01.
+//! The examples and totals of document 01, and the pages of document 02.
 
 use crate::*;
 
@@ -92,4 +92,58 @@ fn census_and_components() {
     let code = [3, 2, 1, 1, 1, 2, 1];
     assert_eq!((component_start(&code, 1), component_end(&code, 1)), (4, 7));
     assert_eq!(component_start(&code, 2), -9);
+}
+
+/// The page in an output of so many places, if every place after it is kept.
+fn paged(code: &[u8], wanted: usize, room: usize) -> Result<(i64, Vec<u8>), i64> {
+    let mut out = vec![7; room];
+    let reply = page(code, wanted, &mut out);
+    let kept = out.split_off(reply.bytes.max(0) as usize);
+    assert!(kept.iter().all(|&byte| byte == 7));
+    if reply.codes < 0 {
+        assert_eq!(reply.codes, reply.bytes);
+        return Err(reply.codes);
+    }
+    Ok((reply.codes, out))
+}
+
+#[test]
+fn pages_of_3_points() {
+    let (code, last) = ([3, 2, 1, 1, 1, 2, 1], [3, 1, 2, 1, 2, 1]);
+    let two = vec![3, 1, 3, 1, 1, 1, 3, 1, 1, 3, 2, 1];
+    let rest = [&two[..], &[3, 1, 1, 3, 1, 1], &last].concat();
+    assert_eq!(paged(&code, 2, 12), Ok((2, two.clone())));
+    assert_eq!(paged(&code, 2, 100), Ok((2, two)));
+    assert_eq!(paged(&code, 2, 11), Err(-8));
+    assert_eq!(paged(&code, 4, 24), Ok((4, rest.clone())));
+    assert_eq!(paged(&code, 1000, 24), Ok((4, rest)));
+    assert_eq!(paged(&code, 1000, 23), Err(-8));
+    assert_eq!(paged(&code, 0, 0), Ok((0, vec![])));
+    assert_eq!(paged(&last, 1000, 0), Ok((0, vec![])));
+    assert_eq!(paged(&[0, 0], 1000, 0), Ok((0, vec![])));
+}
+
+#[test]
+fn refused_pages() {
+    let bad: [(&[u8], i64); 7] =
+        [(&[201, 1], -1), (&[], -3), (&[129, 0], -4), (&[0, 1], -5), (&[3, 1, 2, 2, 1, 1], -6), (&[1, 1, 1, 1, 9], -7), (&[2, 2, 1, 1, 1, 1], -8)];
+    for (code, reply) in bad {
+        assert_eq!(paged(code, 1, 0), Err(reply), "{code:?}");
+        assert_eq!(paged(code, 1001, 0), Err(-10), "{code:?}");
+        assert_eq!(paged(code, usize::MAX, 100), Err(-10), "{code:?}");
+        assert_eq!(paged(code, 0, 0), if reply == -8 { Ok((0, vec![])) } else { Err(reply) }, "{code:?}");
+    }
+}
+
+#[test]
+fn a_page_is_what_follows_in_the_list() {
+    for n in 0..=7 {
+        let codes = listing(n);
+        for (i, code) in codes.iter().enumerate() {
+            for wanted in [0, 1, 2, 7, 1000] {
+                let expected = &codes[i + 1..codes.len().min(i + 1 + wanted)];
+                assert_eq!(paged(code, wanted, 10_000), Ok((expected.len() as i64, expected.concat())));
+            }
+        }
+    }
 }

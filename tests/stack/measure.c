@@ -8,7 +8,7 @@
 
 enum { STACK = 1 << 20, SAID = 64 * 1024, PAINT = 0xA5, RANDOM_MAPS = 300 };
 
-static uint8_t stack[STACK], table[200], other[200], code[1000], out[1000], counts[1000];
+static uint8_t stack[STACK], table[200], other[200], code[1000], out[1000], counts[1000], codes[LETHMUOK_MAX_WANTED * LETHMUOK_MAX_CODE];
 static size_t table_len, code_len;
 static ucontext_t here, there;
 static uint8_t *top;
@@ -25,12 +25,19 @@ static void longest_cycle(void) { lethmuok_longest_cycle(table, table_len); }
 static void component_start(void) { lethmuok_component_start(code, code_len, 0); }
 static void component_end(void) { lethmuok_component_end(code, code_len, 0); }
 
+/* A page that fits, and one that does not. */
+static void page(void)
+{
+    lethmuok_page(code, code_len, LETHMUOK_MAX_WANTED, codes, sizeof codes);
+    lethmuok_page(code, code_len, LETHMUOK_MAX_WANTED, codes, 0);
+}
+
 static struct entry {
     const char *name;
     void (*call)(void);
     size_t most;
 } entries[] = {
-    {"accept", accept, 0}, {"first", first, 0}, {"successor", successor, 0}, {"code_of_map", code_of_map, 0}, {"map_of_code", map_of_code, 0},
+    {"accept", accept, 0}, {"first", first, 0}, {"successor", successor, 0}, {"page", page, 0}, {"code_of_map", code_of_map, 0}, {"map_of_code", map_of_code, 0},
     {"isomorphism", isomorphism, 0}, {"census", census, 0}, {"height", height, 0}, {"longest_cycle", longest_cycle, 0},
     {"component_start", component_start, 0}, {"component_end", component_end, 0},
 };

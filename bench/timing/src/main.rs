@@ -7,7 +7,7 @@ mod labelg;
 mod work;
 
 use clock::own_seconds;
-use sides::{ENGINE, REFERENCE};
+use sides::{ENGINE, HAS_PAGE, REFERENCE};
 use work::Work;
 
 /// Each work is repeated so often, the two sides taking turns.
@@ -51,6 +51,9 @@ fn table(title: &str, works: Vec<Work>) {
 fn main() {
     table("Listing", vec![work::listing(12)]);
     table("Successors of codes of 200 points", work::successors());
+    if HAS_PAGE {
+        table("Pages of up to 1,000 codes of 200 points", work::pages());
+    }
     table("Code of a map of 200 points", work::codes());
     table("Isomorphism of two maps of 200 points", work::isomorphisms());
     table("Census of a map of 200 points", work::censuses());

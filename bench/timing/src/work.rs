@@ -2,7 +2,7 @@
 
 use sides::maps::{is_isomorphism, shuffled, uniform, Kind, KINDS};
 use sides::random::Random;
-use sides::{code_of, written, Side, ENGINE, REFERENCE};
+use sides::{code_of, written, Side, ENGINE, EVERY_PAGE, MOST_WANTED, REFERENCE};
 
 /// A work: what one side does of it, in so many calls, and whether both sides get the same.
 pub struct Work {
@@ -93,6 +93,34 @@ pub fn successors() -> Vec<Work> {
         works.push(walks(format!("from the map: {}", kind.0), starts, steps));
     }
     works
+}
+
+/// A page in an output of so many bytes, all of which are compared.
+fn page(name: String, code: Vec<u8>, room: usize) -> Work {
+    let (same, out) = (code.clone(), std::cell::RefCell::new(vec![0; room]));
+    let filled = move |side: &Side| {
+        let mut out = vec![0; room];
+        ((side.page)(&same, MOST_WANTED, &mut out), out)
+    };
+    Work {
+        name,
+        calls: 1,
+        run: Box::new(move |side| (side.page)(&code, MOST_WANTED, &mut out.borrow_mut()).bytes as u64),
+        agree: Box::new(move || filled(&ENGINE) == filled(&REFERENCE)),
+    }
+}
+
+/// A whole page from the code of each kind of map. An output that holds every page can be filled at once; where there is no byte to spare the engine has to find
+/// out first that the page fits, so some are timed with both.
+pub fn pages() -> Vec<Work> {
+    let wide = |kind: Kind| page(format!("page: {}", kind.0), code_of(&tables(kind, 1)[0]), EVERY_PAGE);
+    let tight = |kind: Kind| {
+        let code = code_of(&tables(kind, 1)[0]);
+        let length = (REFERENCE.page)(&code, MOST_WANTED, &mut vec![0; EVERY_PAGE]).bytes as usize;
+        page(format!("page, no byte to spare: {}", kind.0), code, length)
+    };
+    let both = ["random", "path", "one cycle", "fixed points"];
+    KINDS.into_iter().map(wide).chain(KINDS.into_iter().filter(|kind| both.contains(&kind.0)).map(tight)).collect()
 }
 
 /// A work of one call for each input.

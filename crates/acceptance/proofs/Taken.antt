@@ -8,7 +8,7 @@ use lib.ListN.{length, take, length-take}
 use Rattle.lists.proofs.Tests.{clash}
 use Rattle.patterns.specs.declared.Refusal.{Refusal}
 use Rattle.patterns.specs.System.{System, weight, canonical}
-use Rattle.patterns.specs.Reading.{Result, done, fault, cut, readSystem, accepted}
+use Rattle.patterns.specs.Reading.{Result, done, fault, accepted}
 use Rattle.patterns.specs.Replies.{length-is, refused, numberOf}
 use Rattle.patterns.specs.Entry.{acceptOf}
 use Rattle.reading.specs.declared.Accepted.{Accepted}
@@ -16,24 +16,9 @@ use Rattle.reading.specs.declared.Accepted.the-variants.{System as Held, Refuse
 use Rattle.memory.specs.Memory.{Holds}
 use Rattle.memory.specs.Memory.{HeldSystem}
 use Rattle.reading.specs.Shape.{acceptance, AcceptedInto}
-use Rattle.form_theory.proofs.Results.{Good, good-then, good-weaken, good-done}
-use Rattle.form_theory.proofs.Readback.{system-good, canonical-nonempty}
+use Rattle.form_theory.proofs.Readback.{canonical-nonempty}
+use Rattle.form_theory.proofs.WrittenBack.{accepted-canonical}
 use Rattle.memory.proofs.Parts.{held-count, held-points}
-
-anything-good : {A : Type 0} (r : Result A) → Good (λ x. Unit {0}) r
-anything-good (done x) = tt
-anything-good (fault c) = tt
-
-abbrev Sound : System → Type 0
-Sound S = (canonical S ≡ true) × (weight S ≤ 200)
-
--- what is accepted is canonical, with at most 200 points
-pub accepted-canonical : (b : List ℕ) (S : System) → accepted b ≡ done S → (canonical S ≡ true) × (weight S ≤ 200)
-unfolding accepted
-accepted-canonical b S e =
-    good-done Sound (accepted b) S e
-    (good-then (λ xs. Unit {0}) Sound (cut b) readSystem (anything-good (cut b)) (λ xs u.
-    good-weaken _ Sound (readSystem xs) (system-good xs) (λ R q. (q .1, q .2))))
 
 -- The bytes b were accepted, and the first m and n places of the memory hold their system.
 pub record Taken (b sizes trees : List ℕ) (m n : ℕ) : Type 0 where

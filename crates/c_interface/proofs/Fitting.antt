@@ -16,7 +16,7 @@ use Rattle.patterns.specs.System.{System, weight}
 use Rattle.patterns.specs.Reading.{Result, done, fault, accepted}
 use Rattle.patterns.specs.Replies.{Answer, length-is}
 use Rattle.patterns.specs.Entry.{Outcome, gives, ends, lacks, fails, answer, answered, Replied, acceptOf, IsomorphismReplied}
-use Rattle.acceptance.proofs.Taken.{accepted-canonical}
+use Rattle.form_theory.proofs.WrittenBack.{accepted-canonical}
 use Rattle.patterns.specs.SignedReplies.{signedOf, Reported, IsomorphismReported}
 pub use Rattle.signed_replies.proofs.Fitting.{Fits, read-back, refused-fits}
 

@@ -2,3 +2,4 @@
 pub mod Fitting
 pub mod Measures
 pub mod Parts
+pub mod Pages

@@ -1,14 +1,17 @@
-// The entries of the engine for callers in C: numbers and byte slices in, one signed number out. Of each slice C hands over a pointer and a count.
+// The entries of the engine for callers in C: numbers and byte slices in, one signed number out, of a page two. Of each slice C hands over a pointer and a count.
 use component_parts::stretch_of;
+use signed_replies::PageReply;
 use signed_replies::end_number;
 use signed_replies::isomorphism_number;
+use signed_replies::page_numbers;
 use signed_replies::reply_number;
 use signed_replies::start_number;
 use signed_replies::successor_number;
 ghost use denote.Ref.{now};
 ghost use mathlib.Core.Path.{_≡_};
 ghost use Rattle.patterns.specs.Entry.{acceptOf, firstOf, successorOf, codeOfMap, mapOfCode, heightOf, longestOf};
-ghost use Rattle.patterns.specs.SignedReplies.{signedOf, Reported, IsomorphismReported, CensusReported, componentStart, componentEnd};
+ghost use Rattle.patterns.specs.Page.{pageOf};
+ghost use Rattle.patterns.specs.SignedReplies.{signedOf, Reported, PageReported, IsomorphismReported, CensusReported, componentStart, componentEnd};
 
 // n, or the refusal of a code.
 #[no_mangle]
@@ -32,6 +35,14 @@ pub extern "C" fn lethmuok_successor(code: &[u8], out: &mut [u8]) -> i64
     ensures { λ r. ⌜ Reported (successorOf (now (code .entry))) (now (out .entry)) r (now (out .exit)) ⌝ }
 {
     successor_number(engine::successor(code, out))
+}
+
+// Writes up to `wanted` codes that follow `code` in the list, one after another.
+#[no_mangle]
+pub extern "C" fn lethmuok_page(code: &[u8], wanted: usize, out: &mut [u8]) -> PageReply
+    ensures { λ r. ⌜ PageReported (pageOf wanted (now (code .entry))) (now (out .entry)) (r .codes) (r .bytes) (now (out .exit)) ⌝ }
+{
+    page_numbers(engine::page(code, wanted, out))
 }
 
 // Writes the code of the map `table`.

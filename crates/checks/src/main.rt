@@ -32,6 +32,8 @@ fn main() {
     list_checks::run();
     run_refusals();
     run_answers();
+    page_checks::run(b"pages", b"pages of codes");
+    page_checks::run(b"pages_long", b"long pages");
     reader_checks::run(b"components");
     entry_checks::pairs::run(b"pairs");
 }

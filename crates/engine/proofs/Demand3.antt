@@ -12,8 +12,9 @@ use Rattle.patterns.specs.MapOf.{mapOf}
 use Rattle.patterns.specs.Table.{systemOfTable}
 use Rattle.patterns.specs.Reading.{done}
 use Rattle.patterns.specs.Entry.{checkedTable, codeOfMap}
-use Rattle.patterns.specs.Calls.{Call, Calls, fresh, Enumeration}
-use Rattle.form_theory.proofs.Calls.{enumeration, calls-exist}
+use Rattle.patterns.specs.Calls.{Call, Calls, fresh, stepOf, Enumeration}
+use Rattle.form_theory.proofs.Runs.{calls-exist}
+use Rattle.form_theory.proofs.Calls.{enumeration}
 use Rattle.form_theory.proofs.WrittenBack.{written-equal}
 use Rattle.map_theory.proofs.MapOf.{length-mapOf, mapOf-table}
 use Rattle.map_theory.proofs.Theorems.{table-canonical, table-weight, system-of-map, isomorphic-same-system, same-system-isomorphic}
@@ -63,4 +64,4 @@ module _ {n : ℕ} (small : n ≤ 200) where
 
   -- and such calls exist for every list of buffers
   pub calls-made : (buffers : List (List ℕ)) → (calls : List Call) × Calls n fresh buffers calls
-  calls-made buffers = calls-exist small buffers
+  calls-made buffers = calls-exist (stepOf n) buffers fresh

@@ -11,9 +11,10 @@ use prog.Routine.{Routine}
 use prog.Wp.{Heap}
 use ghost.Atoms.{Atoms}
 use contract.Monad.{Fun, fact}
+use Rattle.patterns.specs.Page.{pageOf, PageReplied}
 use Rattle.patterns.specs.Entry.{Replied, acceptOf, firstOf, successorOf, codeOfMap, mapOfCode, IsomorphismReplied, CensusReplied}
 use Rattle.patterns.specs.Replies.{answerOf}
-use Rattle.patterns.specs.Replies.{successorAnswer, isomorphismAnswer, censusAnswer}
+use Rattle.patterns.specs.Replies.{successorAnswer, pageAnswer, isomorphismAnswer, censusAnswer}
 use Rattle.patterns.specs.Replies.{rowOf}
 use Rattle.patterns.specs.Entry.{RowsReplied, ColumnsReplied, heightOf, longestOf}
 use Rattle.code_entries.proofs.accept.Reads as accept
@@ -22,6 +23,8 @@ use Rattle.code_entries.proofs.first.Reads as first
 use Rattle.code_entries.proofs.first.Kinds as first-kinds
 use Rattle.successor_entry.proofs.successor.Reads as successor
 use Rattle.successor_entry.proofs.successor.Kinds as successor-kinds
+use Rattle.page_entry.proofs.page.Reads as page
+use Rattle.page_entry.proofs.page.Kinds as page-kinds
 use Rattle.coding_entry.proofs.code_of_map.Reads as code-of-map
 use Rattle.coding_entry.proofs.code_of_map.Kinds as code-of-map-kinds
 use Rattle.decoding_entry.proofs.map_of_code.Reads as map-of-code
@@ -51,6 +54,11 @@ first-promise κs a r s p = p
 pub successor-promise : (κs : Lfts 2) (a : Dens κs successor-kinds.ps) (r : _) (s : _) → successor.Post κs a r s
     → Replied (successorOf (now (a .0))) (now (a .1 .0)) (successorAnswer r) (now (s .1 .0))
 successor-promise κs a r s p = p
+
+-- `page`
+pub page-promise : (κs : Lfts 2) (a : Dens κs page-kinds.ps) (r : _) (s : _) → page.Post κs a r s
+    → PageReplied (pageOf (a .1 .0) (now (a .0))) (now (a .1 .1 .0)) (pageAnswer r) (now (s .1 .1 .0))
+page-promise κs a r s p = p
 
 -- `code_of_map`
 pub code-of-map-promise : (κs : Lfts 2) (a : Dens κs code-of-map-kinds.ps) (r : _) (s : _) → code-of-map.Post κs a r s

@@ -8,4 +8,7 @@ pub mod Readback
 pub mod WrittenBack
 pub mod Stretches
 pub mod ComponentStands
+pub mod Runs
 pub mod Calls
+pub mod Turns
+pub mod PageBytes

@@ -11,7 +11,7 @@ use Rattle.patterns.specs.Tree.{Tree, point, merge, size, below, code}
 use Rattle.patterns.specs.Component.{Component, points, flat, nonempty}
 use Rattle.patterns.specs.System.{System, weight, canonical}
 use Rattle.patterns.specs.Written.{componentNumbers, numbers, bytes, written}
-use Rattle.patterns.specs.Reading.{done, cut, readSystem, accepted}
+use Rattle.patterns.specs.Reading.{Result, done, fault, cut, readSystem, accepted}
 use Rattle.form_theory.proofs.Results.{Good, good-weaken, good-then, good-done}
 use Rattle.form_theory.proofs.Bounds.{allBelow, below-cons, below-append}
 use Rattle.form_theory.proofs.Numbers.{cut-bytes, cut-good, bytes-below, bytes-length}
@@ -76,6 +76,21 @@ accepted-good b h =
 -- bytes that are accepted are the written code of a canonical system
 pub accepted-is : (b : List ℕ) (S : System) → allBelow 256 b ≡ true → accepted b ≡ done S → (b ≡ written S) × (canonical S ≡ true) × (weight S ≤ 200)
 accepted-is b S h e = good-done (Code b) (accepted b) S e (accepted-good b h)
+
+anything-good : {A : Type 0} (r : Result A) → Good (λ x. Unit {0}) r
+anything-good (done x) = tt
+anything-good (fault c) = tt
+
+abbrev Sound : System → Type 0
+Sound S = (canonical S ≡ true) × (weight S ≤ 200)
+
+-- what is accepted is canonical, with at most 200 points
+pub accepted-canonical : (b : List ℕ) (S : System) → accepted b ≡ done S → (canonical S ≡ true) × (weight S ≤ 200)
+unfolding accepted
+accepted-canonical b S e =
+    good-done Sound (accepted b) S e
+    (good-then (λ xs. Unit {0}) Sound (cut b) readSystem (anything-good (cut b)) (λ xs u.
+    good-weaken _ Sound (readSystem xs) (system-good xs) (λ R q. (q .1, q .2))))
 
 -- systems with one written code are equal
 pub written-equal : (S R : System) → canonical S ≡ true → canonical R ≡ true → weight S ≤ 200 → weight R ≤ 200 → written S ≡ written R → S ≡ R

@@ -13,4 +13,5 @@ pub mod CensusExamples
 pub mod ReplyExamples
 pub mod ComponentExamples
 pub mod ListExamples
+pub mod PageExamples
 pub mod ListingExamples

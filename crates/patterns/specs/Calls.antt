@@ -12,7 +12,7 @@ use Rattle.patterns.specs.System.{codes}
 use Rattle.patterns.specs.Written.{written}
 use Rattle.patterns.specs.Table.{isTable}
 use Rattle.patterns.specs.Isomorphism.{Isomorphism}
-use Rattle.patterns.specs.Replies.{length-is, last, refused}
+use Rattle.patterns.specs.Replies.{length-is, last, lacking, refused}
 use Rattle.patterns.specs.Entry.{Outcome, gives, ends, lacks, fails, Replied, firstOf, successorOf, codeOfMap}
 
 -- no code is written yet, or the bytes of the code written last
@@ -25,37 +25,47 @@ abbrev pub stepOf : ℕ → State → Outcome ℕ
 stepOf n fresh = firstOf n
 stepOf n (wrote code) = successorOf code
 
--- what one call did: it wrote these bytes, it said "last", or it was refused with this cause and this lent buffer
+-- what one call did: it wrote these bytes, it said "last" or "none", or it was refused with this cause and this lent buffer
 pub data Call : Type 0 where
   entry : List ℕ → Call
   said-last : Call
+  said-none : Call
   refusal : ℕ → List ℕ → Call
 
--- Calls n s buffers calls: from state s on, with these buffers, one for each call, the calls did this. Of a call nothing is known but what its
--- entry promises: `Replied` of the outcome, the buffer before it, the answer and the buffer after it.
-pub data Calls (n : ℕ) : State → List (List ℕ) → List Call → Type 0 where
-  no-buffer : {s : State} → Calls n s [] []
+-- CallsBy step s buffers calls: from state s on, with these buffers, one for each call, the calls did this, where `step` is what the next call finds. Of a call
+-- nothing is known but what its entry promises: `Replied` of the outcome, the buffer before it, the answer and the buffer after it. There is a case for every
+-- answer: a code is written and the next call is about that code; after "last" or "none" no call is made; after a refusal the same is called with the next buffer.
+pub data CallsBy (step : State → Outcome ℕ) : State → List (List ℕ) → List Call → Type 0 where
+  no-buffer : {s : State} → CallsBy step s [] []
   writes : {s : State} {before : List ℕ} {rest : List (List ℕ)} {calls : List Call} (k : ℕ) (after : List ℕ)
-      → Replied (stepOf n s) before (length-is k) after
-      → Calls n (wrote (take k after)) rest calls → Calls n s (before ∷ rest) (entry (take k after) ∷ calls)
+      → Replied (step s) before (length-is k) after
+      → CallsBy step (wrote (take k after)) rest calls → CallsBy step s (before ∷ rest) (entry (take k after) ∷ calls)
   says-last : {s : State} {before : List ℕ} {rest : List (List ℕ)} (after : List ℕ)
-      → Replied (stepOf n s) before last after → Calls n s (before ∷ rest) (said-last ∷ [])
+      → Replied (step s) before last after → CallsBy step s (before ∷ rest) (said-last ∷ [])
+  says-none : {s : State} {before : List ℕ} {rest : List (List ℕ)} (after : List ℕ)
+      → Replied (step s) before lacking after → CallsBy step s (before ∷ rest) (said-none ∷ [])
   refuses : {s : State} {before : List ℕ} {rest : List (List ℕ)} {calls : List Call} (c : ℕ) (after : List ℕ)
-      → Replied (stepOf n s) before (refused c) after
-      → Calls n s rest calls → Calls n s (before ∷ rest) (refusal c before ∷ calls)
+      → Replied (step s) before (refused c) after
+      → CallsBy step s rest calls → CallsBy step s (before ∷ rest) (refusal c before ∷ calls)
+
+-- calls of "first code" and "successor"
+abbrev pub Calls : ℕ → State → List (List ℕ) → List Call → Type 0
+Calls n = CallsBy (stepOf n)
 
 -- the codes written, in order, each as often as it was written
 abbrev pub entries : List Call → List (List ℕ)
 entries [] = []
 entries (entry b ∷ calls) = b ∷ entries calls
 entries (said-last ∷ calls) = entries calls
+entries (said-none ∷ calls) = entries calls
 entries (refusal c b ∷ calls) = entries calls
 
--- some call said "last"
+-- some call said that no code follows: "last", or "none"
 abbrev pub ended : List Call → Bool
 ended [] = false
 ended (entry b ∷ calls) = ended calls
 ended (said-last ∷ calls) = true
+ended (said-none ∷ calls) = true
 ended (refusal c b ∷ calls) = ended calls
 
 -- how many of the buffers have at least 1,000 bytes

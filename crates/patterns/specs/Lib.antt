@@ -11,6 +11,7 @@ pub mod Isomorphism
 pub mod Census
 pub mod Replies
 pub mod Entry
+pub mod Page
 pub mod Calls
 pub mod SignedReplies
 pub mod Decimal

@@ -3,11 +3,13 @@
 use Prim.Native.Nat.{ℕ}
 use Rattle.patterns.specs.Census.{Row}
 use Rattle.patterns.specs.declared.Refusal.{Refusal}
-use Rattle.patterns.specs.declared.Refusal.the-variants.{Count, Image, Truncated, NumberForm, Sizes, NotCanonical, Trailing, Room, Position}
+use Rattle.patterns.specs.declared.Refusal.the-variants.{Count, Image, Truncated, NumberForm, Sizes, NotCanonical, Trailing, Room, Position, Wanted}
 use Rattle.patterns.specs.declared.reply.Reply.{Reply}
 use Rattle.patterns.specs.declared.reply.Reply.the-variants.{Length, Refused}
 use Rattle.patterns.specs.declared.reply.Successor.{Successor}
 use Rattle.patterns.specs.declared.reply.Successor.the-variants.{Length as NextLength, Last, Refused as NoNext}
+use Rattle.patterns.specs.declared.reply.Page.{Page}
+use Rattle.patterns.specs.declared.reply.Page.the-variants.{Written, Refused as NoPage}
 use Rattle.patterns.specs.declared.reply.Isomorphism.{Isomorphism}
 use Rattle.patterns.specs.declared.reply.Isomorphism.the-variants.{Points, Lacking, Refused as NotCompared}
 use Rattle.patterns.specs.declared.reply.Census.{Census}
@@ -16,7 +18,7 @@ use Rattle.patterns.specs.declared.reply.Row.{Row as RowStruct}
 use Rattle.patterns.specs.declared.reply.Stretch.{Stretch}
 use Rattle.patterns.specs.declared.reply.Stretch.the-variants.{Part, Refused as NoPart}
 
--- the table of causes
+-- the table of causes; from 10 on document 02
 abbrev pub numberOf : Refusal → ℕ
 numberOf Count = 1
 numberOf Image = 2
@@ -27,6 +29,7 @@ numberOf NotCanonical = 6
 numberOf Trailing = 7
 numberOf Room = 8
 numberOf Position = 9
+numberOf Wanted = 10
 
 -- A reply in document 01's words: a length (or n, or a number of entries), "last", "none", or a refusal with its number.
 pub data Answer : Type 0 where
@@ -39,6 +42,11 @@ pub data Answer : Type 0 where
 pub data CensusAnswer : Type 0 where
   census-is : ℕ → ℕ → ℕ → CensusAnswer
   census-refused : ℕ → CensusAnswer
+
+-- how many codes a page has and how many bytes they take together, or a refusal with its number
+pub data PageAnswer : Type 0 where
+  page-is : ℕ → ℕ → PageAnswer
+  page-refused : ℕ → PageAnswer
 
 -- where the component's bytes begin and end in the code, or a refusal with its number
 pub data PartAnswer : Type 0 where
@@ -54,6 +62,10 @@ abbrev pub successorAnswer : Successor → Answer
 successorAnswer (NextLength n) = length-is n
 successorAnswer Last = last
 successorAnswer (NoNext c) = refused (numberOf c)
+
+abbrev pub pageAnswer : Page → PageAnswer
+pageAnswer (Written codes bytes) = page-is codes bytes
+pageAnswer (NoPage c) = page-refused (numberOf c)
 
 abbrev pub isomorphismAnswer : Isomorphism → Answer
 isomorphismAnswer (Points n) = length-is n

@@ -4,9 +4,12 @@ use mathlib.Core.Path.{_≡_}
 use mathlib.Core.List.{List}
 use Prim.Native.Nat.{ℕ}
 use lib.IntN.{ℤ, pos, negℤ}
-use Rattle.patterns.specs.Replies.{Answer, length-is, last, lacking, refused}
+use Rattle.patterns.specs.Replies.{Answer, length-is, last, lacking, refused, PageAnswer, page-is, page-refused}
 use Rattle.patterns.specs.Census.{rowsOf}
 use Rattle.patterns.specs.Entry.{Outcome, answer, answered, filled, componentOf, IsomorphismReplied, rowsFound, ColumnsFilled}
+use Rattle.patterns.specs.System.{System}
+use Rattle.patterns.specs.Reading.{Result}
+use Rattle.patterns.specs.Page.{pageFound, pageAnswered}
 
 abbrev pub signedOf : Answer → ℤ
 signedOf (length-is n) = pos n
@@ -29,6 +32,22 @@ pub record IsomorphismReported (f g before : List ℕ) (r : ℤ) (after : List �
 pub record CensusReported (f lengths counts : List ℕ) (r : ℤ) (lengths′ counts′ : List ℕ) : Type 0 where
   pub number : r ≡ signedOf (answered (rowsFound f) (rowsOf lengths counts))
   pub output : ColumnsFilled f lengths counts lengths′ counts′
+
+-- of a page, how many codes it has alone, or the refusal
+abbrev pub pageCount : PageAnswer → Answer
+pageCount (page-is codes bytes) = length-is codes
+pageCount (page-refused c) = refused c
+
+-- and how many bytes they take
+abbrev pub pageLength : PageAnswer → Answer
+pageLength (page-is codes bytes) = length-is bytes
+pageLength (page-refused c) = refused c
+
+-- the page entry replied with these two numbers, both a refusal where there is one
+pub record PageReported (found : Result (List System)) (before : List ℕ) (codes bytes : ℤ) (after : List ℕ) : Type 0 where
+  pub codes-are : codes ≡ signedOf (pageCount (pageAnswered found before))
+  pub bytes-are : bytes ≡ signedOf (pageLength (pageAnswered found before))
+  pub output : after ≡ filled (pageFound found) before
 
 -- where the bytes of the component at position i begin and end in the code b, or the refusal
 abbrev pub componentStart : List ℕ → ℕ → Answer

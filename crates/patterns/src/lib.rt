@@ -1,9 +1,10 @@
-// The causes of a refusal [document 01, "Refusing"] with the numbers that document 01 gives them, the replies of the public entries, and room for a number
+// The causes of a refusal [document 01, "Refusing", and document 02] with the numbers that these give them, the replies of the public entries, and room for a number
 // for each point of the largest map.
 mod reply;
 
 pub use reply::Census;
 pub use reply::Isomorphism;
+pub use reply::Page;
 pub use reply::Reply;
 pub use reply::Row;
 pub use reply::Stretch;
@@ -22,9 +23,10 @@ pub enum Refusal {
     Trailing,
     Room,
     Position,
+    Wanted,
 }
 
-// The number that document 01 gives a cause.
+// The number of a cause.
 pub fn number(cause: Refusal) -> u8
     ensures { λ r. ⌜ r ≡ numberOf cause ⌝ }
 {
@@ -38,6 +40,7 @@ pub fn number(cause: Refusal) -> u8
         Refusal::Trailing => 7,
         Refusal::Room => 8,
         Refusal::Position => 9,
+        Refusal::Wanted => 10,
     }
 }
 

@@ -14,6 +14,12 @@ pub enum Successor {
     Refused(Refusal),
 }
 
+// How many codes a page has [document 02, paper 2] and how many bytes they take together, or a refusal with its cause.
+pub enum Page {
+    Written(usize, usize),
+    Refused(Refusal),
+}
+
 // The number of points, "none", or a refusal with its cause.
 pub enum Isomorphism {
     Points(usize),

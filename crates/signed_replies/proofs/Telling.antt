@@ -7,8 +7,10 @@ use lib.Dec.{eqb}
 use borrow.Author.Tests.{ne-eqb}
 use lib.IntN.{ℤ, pos, negsuc, negℤ}
 use Rattle.patterns.specs.declared.Refusal.{Refusal}
-use Rattle.patterns.specs.Replies.{Answer, length-is, last, lacking, refused, numberOf}
-use Rattle.patterns.specs.SignedReplies.{signedOf}
+use Rattle.patterns.specs.declared.reply.Page.{Page}
+use Rattle.patterns.specs.declared.reply.Page.the-variants.{Written, Refused}
+use Rattle.patterns.specs.Replies.{Answer, length-is, last, lacking, refused, numberOf, pageAnswer}
+use Rattle.patterns.specs.SignedReplies.{signedOf, pageCount, pageLength}
 use Rattle.patterns.proofs.Causes.{cause-number}
 
 -- the reply that a caller takes a number for
@@ -31,3 +33,8 @@ cause-told (suc c) h k = rw (ne-eqb c 99 (λ e. omega arith), ne-eqb c 100 (λ e
 
 pub refusal-told : (c : Refusal) → replyOf (signedOf (refused (numberOf c))) ≡ refused (numberOf c)
 refusal-told c = let b = cause-number c in cause-told (numberOf c) (b .0) (b .1)
+
+-- the two numbers of a page: how many codes and how many bytes, or the refusal from each of them
+pub page-told : (r : Page) → (replyOf (signedOf (pageCount (pageAnswer r))) ≡ pageCount (pageAnswer r)) × (replyOf (signedOf (pageLength (pageAnswer r))) ≡ pageLength (pageAnswer r))
+page-told (Written codes bytes) = (refl, refl)
+page-told (Refused c) = (refusal-told c, refusal-told c)

@@ -1,5 +1,6 @@
-// Each reply of the engine as one signed number, for callers in C: what was counted as it is, a refusal as minus the number of its cause.
+// Each reply of the engine as a signed number, that of a page as two, for callers in C: what was counted as it is, a refusal as minus the number of its cause.
 use patterns::Isomorphism;
+use patterns::Page;
 use patterns::Refusal;
 use patterns::Reply;
 use patterns::Stretch;
@@ -8,8 +9,8 @@ ghost use mathlib.Core.Path.{_≡_};
 ghost use lib.IntN.{pos};
 ghost use mir.Syntax.{w64};
 ghost use mir.Val.{SFits};
-ghost use Rattle.patterns.specs.Replies.{Answer.refused, numberOf, answerOf, successorAnswer, isomorphismAnswer, partAnswer};
-ghost use Rattle.patterns.specs.SignedReplies.{signedOf};
+ghost use Rattle.patterns.specs.Replies.{Answer.refused, numberOf, answerOf, successorAnswer, pageAnswer, isomorphismAnswer, partAnswer};
+ghost use Rattle.patterns.specs.SignedReplies.{signedOf, pageCount, pageLength};
 ghost use Rattle.signed_replies.specs.Ends.{startIn, endIn};
 
 // The number of a refusal: minus the number of its cause.
@@ -47,6 +48,30 @@ pub fn successor_number(reply: Successor) -> i64
         Successor::Length(n) => counted(n),
         Successor::Last => -100,
         Successor::Refused(cause) => refusal(cause),
+    }
+}
+
+// The two numbers of a page: how many codes and how many bytes, or a refusal in both.
+#[repr(C)]
+pub struct PageReply {
+    pub codes: i64,
+    pub bytes: i64,
+}
+
+// The numbers of what the page entry replied.
+pub fn page_numbers(reply: Page) -> PageReply
+    requires { ⌜ (SFits w64 (signedOf (pageCount (pageAnswer reply)))) × (SFits w64 (signedOf (pageLength (pageAnswer reply)))) ⌝ }
+    ensures { λ r. ⌜ (r .codes ≡ signedOf (pageCount (pageAnswer reply))) × (r .bytes ≡ signedOf (pageLength (pageAnswer reply))) ⌝ }
+{
+    match reply {
+        Page::Written(codes, bytes) => PageReply {
+            codes: counted(codes),
+            bytes: counted(bytes),
+        },
+        Page::Refused(cause) => PageReply {
+            codes: refusal(cause),
+            bytes: refusal(cause),
+        },
     }
 }
 

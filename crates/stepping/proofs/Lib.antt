@@ -1,2 +1,3 @@
 -- The laws that the functions of this crate cite.
 pub mod Stepping
+pub mod Following

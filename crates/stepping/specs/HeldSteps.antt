@@ -21,6 +21,15 @@ pub record HeldStep (sizes : List ℕ) (m : ℕ) (trees up side out : List ℕ) 
   pub small : length sizes ≤ 200
   pub work : Work (length trees) up side out
 
+-- the same where there is work space: a canonical system of at most 200 points, its sizes in the first m of 200 places
+pub record HeldNext (sizes : List ℕ) (m : ℕ) (trees : List ℕ) : Type 0 where
+  pub system : System
+  pub holds : Holds system (take m sizes) trees
+  pub canonical-is : canonical system ≡ true
+  pub within : m ≤ length sizes
+  pub places : length sizes ≡ 200
+  pub small : length trees ≤ 200
+
 -- the next system, if there is one, with its sizes in the first places
 abbrev pub SteppedTo : Option System → Stepped → List ℕ → List ℕ → Type 0
 SteppedTo none r sizes trees = r ≡ Last

@@ -1,13 +1,14 @@
 // The step from a system in memory to the next one in the list of all codes.
 use bumping::bump;
 use lists::set_all;
+use patterns::points_room;
 use size_lists::next_sizes;
 ghost use denote.Ref.{now};
 ghost use lib.ListN.{take};
 ghost use Rattle.patterns.specs.System.{System};
 ghost use Rattle.system_theory.specs.Step.{step};
 ghost use Rattle.memory.specs.Memory.{Holds};
-ghost use Rattle.stepping.specs.HeldSteps.{HeldStep, SteppedTo};
+ghost use Rattle.stepping.specs.HeldSteps.{HeldStep, HeldNext, SteppedTo};
 
 // The step to the next system: how many components it has, or there is none.
 pub enum Stepped {
@@ -17,7 +18,7 @@ pub enum Stepped {
 
 // The system that follows in the list of all codes. `trees` holds the system, and the first m places of `sizes` its sizes; the first places of
 // `sizes` then hold as many as the answer says. The other three slices are for work alone.
-pub fn next_system(
+fn next_system(
     sizes: &mut [u8],
     m: usize,
     trees: &mut [u8],
@@ -38,4 +39,16 @@ pub fn next_system(
     }
     set_all(trees, 1);
     Stepped::Next(k)
+}
+
+// The same with work space of its own, where `sizes` has 200 places.
+pub fn follow(sizes: &mut [u8], m: usize, trees: &mut [u8]) -> Stepped
+    requires { ⌜ HeldNext (now sizes) m (now trees) ⌝ }
+    ensures { λ r. ⌜ ((S : System) → Holds S (take m (now (sizes .entry))) (now (trees .entry))
+        → SteppedTo (step S) r (now (sizes .exit)) (now (trees .exit))) ⌝ }
+{
+    let mut up = points_room();
+    let mut side = points_room();
+    let mut work = points_room();
+    next_system(sizes, m, trees, &mut up, &mut side, &mut work)
 }

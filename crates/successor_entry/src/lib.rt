@@ -5,7 +5,7 @@ use patterns::Successor;
 use patterns::points_room;
 use reading::Accepted;
 use stepping::Stepped;
-use stepping::next_system;
+use stepping::follow;
 use writing::put_system;
 ghost use denote.Ref.{now};
 ghost use mathlib.Core.Path.{_≡_};
@@ -15,7 +15,7 @@ ghost use Rattle.patterns.specs.System.{System, weight, codes, compareSystem};
 ghost use Rattle.patterns.specs.Entry.{Replied, listed, successorOf};
 ghost use Rattle.patterns.specs.Replies.{answerOf, successorAnswer};
 ghost use Rattle.memory.specs.Memory.{Holds};
-ghost use Rattle.successor_entry.specs.HeldNext.{HeldNext};
+ghost use Rattle.stepping.specs.HeldSteps.{HeldNext};
 
 // The reply of a writing function as the reply of the successor entry.
 fn as_successor(reply: Reply) -> Successor
@@ -33,10 +33,7 @@ fn put_next(sizes: &mut [u8], m: usize, trees: &mut [u8], out: &mut [u8]) -> Suc
     ensures { λ r. ⌜ ((S : System) → Holds S (take m (now (sizes .entry))) (now (trees .entry))
         → Replied (listed (next compareSystem S (codes (weight S)))) (now (out .entry)) (successorAnswer r) (now (out .exit))) ⌝ }
 {
-    let mut up = points_room();
-    let mut side = points_room();
-    let mut work = points_room();
-    match next_system(sizes, m, trees, &mut up, &mut side, &mut work) {
+    match follow(sizes, m, trees) {
         Stepped::Last => Successor::Last,
         Stepped::Next(k) => as_successor(put_system(&sizes[..k], trees, out)),
     }

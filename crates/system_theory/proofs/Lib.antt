@@ -4,4 +4,5 @@ pub mod Canonical
 pub mod Codes
 pub mod Firsts
 pub mod Step
+pub mod Successors
 pub mod StepScan

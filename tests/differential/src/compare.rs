@@ -1,11 +1,11 @@
 //! One call of both sides: the replies and the whole lent buffers, with the bytes around them, have to agree.
 
 use sides::maps::is_isomorphism;
-use sides::{Side, ENGINE, REFERENCE};
+use sides::{PageReply, Side, ENGINE, REFERENCE};
 use std::fmt::Write;
 
-pub const ENTRIES: [&str; 11] =
-    ["accept", "first", "successor", "code_of_map", "map_of_code", "isomorphism", "census", "height", "longest_cycle", "component_start", "component_end"];
+pub const ENTRIES: [&str; 12] =
+    ["accept", "first", "successor", "page", "code_of_map", "map_of_code", "isomorphism", "census", "height", "longest_cycle", "component_start", "component_end"];
 
 /// The bytes in front of a lent buffer and behind it.
 const MARGIN: usize = 16;
@@ -33,6 +33,15 @@ impl Lent {
         let kept = places <= self.room && self.bytes[..MARGIN] == untouched.bytes[..MARGIN] && self.bytes[end..] == untouched.bytes[end..];
         kept.then(|| &self.bytes[MARGIN..end])
     }
+}
+
+/// A page of one side: the reply, and what was written, if all other bytes are as they were.
+pub type Page = (PageReply, Option<Vec<u8>>);
+
+pub fn page(side: &Side, code: &[u8], wanted: usize, room: usize) -> Page {
+    let mut lent = Lent::new(room);
+    let reply = (side.page)(code, wanted, lent.out());
+    (reply, lent.only_first(reply.bytes.max(0) as usize).map(<[u8]>::to_vec))
 }
 
 /// What has been compared so far.
@@ -85,6 +94,21 @@ impl Comparison {
 
     pub fn successor(&mut self, code: &[u8], room: usize) {
         self.buffers("successor", code, room, |side, out| (side.successor)(code, out));
+    }
+
+    pub fn page(&mut self, code: &[u8], wanted: usize, room: usize) {
+        self.page_as(&ENGINE, code, wanted, room, ("reference", &page(&REFERENCE, code, wanted, room)));
+    }
+
+    /// The page of a side is the expected one. It may be long, so of its bytes only the first place that differs is shown.
+    pub fn page_as(&mut self, side: &Side, code: &[u8], wanted: usize, room: usize, (name, expected): (&str, &Page)) {
+        let got = page(side, code, wanted, room);
+        self.count("page", got == *expected && got.1.is_some(), |text| {
+            let place = got.1.iter().flatten().zip(expected.1.iter().flatten()).position(|(a, b)| a != b);
+            let around = if got.1.is_some() { "kept" } else { "not kept" };
+            write!(text, "{} {:?}, {name} {:?}, first other byte at {place:?}, bytes around {around}, ", side.name, got.0, expected.0).unwrap();
+            write!(text, "wanted {wanted}, room {room}, code {code:?}").unwrap()
+        });
     }
 
     pub fn code_of_map(&mut self, table: &[u8], room: usize) {

@@ -2,7 +2,7 @@
 
 use crate::compare::Comparison;
 use sides::random::Random;
-use sides::{written, REFERENCE};
+use sides::{written, EVERY_PAGE, MOST_WANTED, REFERENCE};
 
 /// Rooms around the length of a result; a refused call gets some all the same.
 fn rooms(result: &Result<Vec<u8>, i64>) -> Vec<usize> {
@@ -22,9 +22,23 @@ pub fn code(comparison: &mut Comparison, code: &[u8]) {
     for room in rooms(&written(|out| (REFERENCE.map_of_code)(code, out))) {
         comparison.map_of_code(code, room);
     }
+    for wanted in [0, 3, MOST_WANTED + 1] {
+        page(comparison, code, wanted);
+    }
     let components = code.get(1).map_or(0, |&m| m as usize);
     for position in [0, components / 2, components.saturating_sub(1), components, usize::MAX] {
         comparison.component(code, position);
+    }
+}
+
+/// A page after a code, good or bad, also with no room and with half of what it takes.
+pub fn page(comparison: &mut Comparison, code: &[u8], wanted: usize) {
+    let mut out = vec![0; wanted.min(MOST_WANTED) * (EVERY_PAGE / MOST_WANTED)];
+    let length = (REFERENCE.page)(code, wanted, &mut out).bytes;
+    out.truncate(length.max(0) as usize);
+    let short = [0, out.len() / 2].into_iter().filter(|_| length > 0);
+    for room in short.chain(rooms(&if length < 0 { Err(length) } else { Ok(out) })) {
+        comparison.page(code, wanted, room);
     }
 }
 

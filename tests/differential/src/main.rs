@@ -9,20 +9,26 @@ mod model;
 use compare::{Comparison, ENTRIES};
 use sides::maps::{shuffled, small_components, uniform, KINDS};
 use sides::random::Random;
-use sides::{code_of, written, REFERENCE};
+use sides::{code_of, written, PageReply, Side, ENGINE, EVERY_PAGE, MOST_WANTED, REFERENCE};
 use std::path::Path;
 use std::process::ExitCode;
 
 /// The calls that a run has to make.
 const LEAST_CALLS: u64 = 1_000_000;
 
-/// All codes of n points.
-fn codes(n: usize) -> Vec<Vec<u8>> {
-    let mut found = vec![written(|out| (REFERENCE.first)(n, out)).expect("a first code")];
-    while let Ok(code) = written(|out| (REFERENCE.successor)(&found[found.len() - 1], out)) {
+/// A code, and those after it that successor calls of a side write in turn, at most so many.
+fn in_turn(side: &Side, code: Vec<u8>, most: usize) -> Vec<Vec<u8>> {
+    let mut found = vec![code];
+    while found.len() <= most {
+        let Ok(code) = written(|out| (side.successor)(&found[found.len() - 1], out)) else { break };
         found.push(code);
     }
     found
+}
+
+/// All codes of n points.
+fn codes(n: usize) -> Vec<Vec<u8>> {
+    in_turn(&REFERENCE, written(|out| (REFERENCE.first)(n, out)).expect("a first code"), usize::MAX)
 }
 
 /// Every count up to some above 200, and huge ones, with rooms around the length.
@@ -188,6 +194,65 @@ fn bad_tables(comparison: &mut Comparison, random: &mut Random, rounds: usize) {
     }
 }
 
+/// The page of all that is left after every code of up to 8 points.
+fn every_page(comparison: &mut Comparison) {
+    for list in (0..=8).map(codes) {
+        for (place, code) in list.iter().enumerate() {
+            let length: usize = list[place + 1..].iter().map(Vec::len).sum();
+            comparison.page(code, MOST_WANTED, length);
+            comparison.page(code, list.len() - 1 - place, length + 9);
+            if code[0] < 8 {
+                comparison.page(code, MOST_WANTED, length.saturating_sub(1));
+            }
+        }
+    }
+}
+
+/// Numbers above 1,000; some are small where they are cut to 16 or 32 bits.
+const TOO_MANY: [usize; 8] = [1001, 1002, 2000, 1 << 16, 1 << 32, (1 << 32) + 1, 1 << 63, usize::MAX];
+
+/// Pages after codes of every kind, good and damaged, with wanted numbers of every size.
+fn pages(comparison: &mut Comparison, random: &mut Random, rounds: usize) {
+    for (_, kind) in KINDS {
+        for _ in 0..rounds {
+            let code = code_of(&kind(any_count(random), random));
+            for wanted in [0, 1, 2, 3 + random.below(30)] {
+                inputs::page(comparison, &code, wanted);
+            }
+            if random.below(4) == 0 {
+                comparison.page(&code, random.below(9), EVERY_PAGE);
+            }
+            let mut damaged = code.clone();
+            inputs::damage(&mut damaged, random);
+            for wanted in [1, 7, MOST_WANTED] {
+                inputs::page(comparison, &damaged, wanted);
+            }
+            for wanted in TOO_MANY {
+                comparison.page(&code, wanted, *random.pick(&[0, 300, 5000]));
+                comparison.page(&damaged, wanted, *random.pick(&[0, 300, 5000]));
+            }
+            let small = code_of(&kind(1 + random.below(14), random));
+            comparison.page(&small, MOST_WANTED, 5000 * random.below(7));
+        }
+    }
+}
+
+/// Pages of 1,000 codes of 200 points: those of the reference, and what the engine's own successor calls write in turn.
+fn whole_pages(comparison: &mut Comparison, random: &mut Random) {
+    for (_, kind) in KINDS {
+        let code = code_of(&kind(200, random));
+        let following = in_turn(&ENGINE, code.clone(), MOST_WANTED).split_off(1);
+        let (codes, bytes) = (following.len() as i64, following.concat());
+        let length = bytes.len();
+        let page = (PageReply { codes, bytes: length as i64 }, Some(bytes));
+        for room in [length, EVERY_PAGE] {
+            comparison.page_as(&ENGINE, &code, MOST_WANTED, room, ("in turn", &page));
+        }
+        comparison.page(&code, MOST_WANTED, length);
+        comparison.page(&code, MOST_WANTED, length.saturating_sub(1));
+    }
+}
+
 /// The number of calls of each entry, and whether the run was long enough and without a difference.
 fn report(comparison: &Comparison) -> bool {
     for (entry, calls) in ENTRIES.iter().zip(comparison.calls) {
@@ -213,6 +278,9 @@ fn main() -> ExitCode {
     reordered_codes(comparison, random, 20_000);
     noise(comparison, random, 20_000);
     bad_tables(comparison, random, 4_000);
+    every_page(comparison);
+    pages(comparison, random, 12);
+    whole_pages(comparison, random);
     if report(comparison) {
         ExitCode::SUCCESS
     } else {

@@ -2,7 +2,7 @@
 
 use crate::compare::Comparison;
 use sides::maps::is_isomorphism;
-use sides::{written, Side, ENGINE, LAST, NONE, REFERENCE};
+use sides::{written, PageReply, Side, ENGINE, LAST, NONE, REFERENCE};
 use std::fmt::Write;
 use std::path::Path;
 
@@ -70,6 +70,18 @@ fn case(comparison: &mut Comparison, line: &str) {
     }
 }
 
+/// One line of a file of pages.
+fn page(comparison: &mut Comparison, line: &str) {
+    let mut words = Line(line.split_whitespace());
+    let (code, wanted, room) = (words.list().1, words.number(), words.number());
+    let (kind, codes, bytes) = (words.number(), words.number() as i64, words.number() as i64);
+    let reply = if kind == 0 { PageReply { codes, bytes } } else { PageReply { codes: -codes, bytes: -codes } };
+    let expected = (reply, Some(words.list().1));
+    for side in [&ENGINE, &REFERENCE] {
+        comparison.page_as(side, &code, wanted, room, ("model", &expected));
+    }
+}
+
 /// One line of the file of maps with shuffled copies.
 fn pair(comparison: &mut Comparison, line: &str) {
     let mut words = Line(line.split_whitespace());
@@ -103,6 +115,9 @@ pub fn run(comparison: &mut Comparison, data: &Path) {
     let read = |name: &str| std::fs::read_to_string(data.join(name)).expect(name);
     for name in ["examples", "damaged", "damaged_long", "reordered", "hostile", "rooms", "steps", "codes", "census"] {
         read(name).lines().for_each(|line| case(comparison, line));
+    }
+    for name in ["pages", "pages_long"] {
+        read(name).lines().for_each(|line| page(comparison, line));
     }
     read("pairs").lines().for_each(|line| pair(comparison, line));
     for n in 0..=8 {

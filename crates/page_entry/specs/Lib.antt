@@ -1,0 +1,2 @@
+-- What the parts of the entry ask.
+pub mod HeldCopies

@@ -1,2 +1,0 @@
--- What the parts of the entry ask of lent slices.
-pub mod HeldNext
