@@ -19,7 +19,14 @@ ghost use Rattle.page_entry.specs.HeldCopies.{HeldCopies};
 
 // `room` bytes are too few for the page. 1,000 bytes hold every code [document 01, "The written code"], so it is measured only where there are fewer for each;
 // the system is taken by value, since measuring moves it on.
-fn lacks_room(sizes: [u8; 200], m: usize, trees: [u8; 200], n: usize, wanted: usize, room: usize) -> bool
+fn lacks_room(
+    sizes: [u8; 200],
+    m: usize,
+    trees: [u8; 200],
+    n: usize,
+    wanted: usize,
+    room: usize,
+) -> bool
     requires { ⌜ HeldCopies sizes m trees n wanted ⌝ }
     ensures { λ r. ⌜ ((S : System) → Holds S (take m sizes) (take n trees) → r ≡ ltb room (length (pageBytes (successors wanted S)))) ⌝ }
 {
@@ -32,7 +39,14 @@ fn lacks_room(sizes: [u8; 200], m: usize, trees: [u8; 200], n: usize, wanted: us
 }
 
 // Puts the page into the first places of `out`, where there is room for all of it.
-fn put_page(sizes: [u8; 200], m: usize, trees: [u8; 200], n: usize, wanted: usize, out: &mut [u8]) -> Page
+fn put_page(
+    sizes: [u8; 200],
+    m: usize,
+    trees: [u8; 200],
+    n: usize,
+    wanted: usize,
+    out: &mut [u8],
+) -> Page
     requires { ⌜ HeldCopies sizes m trees n wanted ⌝ }
     ensures { λ r. ⌜ ((S : System) → Holds S (take m sizes) (take n trees)
         → PageReplied (done (successors wanted S)) (now (out .entry)) (pageAnswer r) (now (out .exit))) ⌝ }

@@ -61,7 +61,7 @@ paged-within {wanted = wanted} {i = i} {made = made} p =
       arith,
       ap (λ l. length (pageBytes l)) (p .page),
       ap length (gather-append written made rest),
-      length-append (pageBytes made) (pageBytes rest)
+      length-append (pageBytes made) (pageBytes rest),
     )
 
 -- one code more

@@ -12,7 +12,13 @@ ghost use Rattle.memory.specs.Memory.{Holds};
 ghost use Rattle.paging.specs.HeldPages.{PageRoom, PagePut};
 
 // Writes the next `wanted` codes into the first places of `out`, which has room for them. Memory then holds the last of them.
-pub fn write_page(sizes: &mut [u8], m: usize, trees: &mut [u8], wanted: usize, out: &mut [u8]) -> Page
+pub fn write_page(
+    sizes: &mut [u8],
+    m: usize,
+    trees: &mut [u8],
+    wanted: usize,
+    out: &mut [u8],
+) -> Page
     requires { ⌜ PageRoom (now sizes) m (now trees) wanted (now out) ⌝ }
     ensures { λ r. ⌜ ((S : System) → Holds S (take m (now (sizes .entry))) (now (trees .entry))
         → PagePut (successors wanted S) (now (out .entry)) (pageAnswer r) (now (out .exit))) ⌝ }

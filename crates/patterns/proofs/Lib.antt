@@ -14,4 +14,5 @@ pub mod ReplyExamples
 pub mod ComponentExamples
 pub mod ListExamples
 pub mod PageExamples
+pub mod CallExamples
 pub mod ListingExamples

@@ -34,19 +34,19 @@ taken c =
     code-taken (code k) (k .accept-into .ensures) (told .0 .0) (told .0 .1 .0) (told .1)
 
 returns : tie.Need-returns
-returns c = let s = start (c .before) in page-wanted (s .args .wanted) (now (s .args .code)) (now (s .args .out)) (c .if1 .taken)
-
-put-page-requires : tie.Need-put-page-requires
-put-page-requires c κs =
-    let k = c .before in
-    let f = few (accepting (k .before .before .before)) in
-    taken-copies (f .if1 .left) (taken k) (omega arith) (omega arith)
+returns c = let s = start (c .before) in page-wanted (s .args .wanted) (now (s .args .code)) (now (s .args .out)) (omega (arith, c .if1 .taken))
 
 returns-2 : tie.Need-returns-2
 returns-2 c =
     let k = accepting (c .before .before .before) in
     let told = c .before .cause .given in
     page-fault (few k .if1 .left) (code k) (now (begun k .args .out)) (told .0 .0) (code-refused (code k) (k .accept-into .ensures) (told .0 .0) (told .1))
+
+put-page-requires : tie.Need-put-page-requires
+put-page-requires c κs =
+    let k = c .before in
+    let f = few (accepting (k .before .before .before)) in
+    taken-copies (f .if1 .left) (taken k) (omega arith) (omega arith)
 
 returns-3 : tie.Need-returns-3
 returns-3 c =

@@ -18,17 +18,16 @@ output c = now (start c .args .out)
 abbrev fits : tie.After-trees-copy → tie.Else1
 fits c = c .before .before
 
-returns : tie.Need-returns
-returns c = let m = c .before in page-short (start m .pre) (output m) (m .lacks-room .ensures) (c .if1 .taken)
+write-page-requires : tie.Need-write-page-requires
+write-page-requires c κs =
+    let f = fits (c .before) in
+    page-room (start (f .before) .pre) (output (f .before)) (f .before .lacks-room .ensures) (f .if1 .left)
 
 slice-aggregate-write-page-2 : tie.Need-slice-aggregate-write-page-2
 slice-aggregate-write-page-2 c = let within = start (fits c .before) .pre .within in rw length-take (omega arith)
 
-write-page-requires : tie.Need-write-page-requires
-write-page-requires c κs =
-    let f = fits (c .before) in
-    let m = f .before in
-    page-room (start m .pre) (output m) (m .lacks-room .ensures) (f .if1 .left)
+returns : tie.Need-returns
+returns c = let m = c .before in page-short (start m .pre) (output m) (m .lacks-room .ensures) (c .if1 .taken)
 
 returns-2 : tie.Need-returns-2
 returns-2 c =

@@ -66,6 +66,11 @@ advanced c S h =
 next : (c : Told) → let f = stepped c .follow in HeldNext (f .last .0) (c .before .count .given .0 .0) (f .last .1 .1 .0)
 next c = let l = turn (stepped c) .before in advanced c (asked l) (start l .pre .held .holds) .held
 
+write-system-requires : tie.Need-write-system-requires Inv-loop μ-loop
+write-system-requires c κs =
+    let k = c .before .before .before in
+    let l = turn (stepped k) .before in writing-room (writing l) (advanced k (asked l) (start l .pre .held .holds))
+
 loop-holds : tie.Need-loop-holds Inv-loop μ-loop
 loop-holds c = (refl, refl, writing-start (c .before .before .before .pre))
 
@@ -94,12 +99,6 @@ slice-reshare-prefix-write-system c = next c .within
 
 slice-aggregate-write-system : tie.Need-slice-aggregate-write-system Inv-loop μ-loop
 slice-aggregate-write-system c = let fits = next (c .before) .within in rw length-take (omega arith)
-
-write-system-requires : tie.Need-write-system-requires Inv-loop μ-loop
-write-system-requires c κs =
-    let k = c .before .before .before in
-    let l = turn (stepped k) .before in
-    writing-room (writing l) (advanced k (asked l) (start l .pre .held .holds))
 
 loop-again : tie.Need-loop-again Inv-loop μ-loop
 loop-again c =
