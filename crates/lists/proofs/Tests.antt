@@ -60,12 +60,7 @@ or-true true b e = inl refl
 or-true false b e = inr e
 
 module _ {ℓ κ} {A : Type ℓ} (P : A → Type κ) where
-  -- what holds of both arms holds of the chosen one
-  pub choose-both : (b : Bool) {x y : A} → P x → P y → P (cond b x y)
-  choose-both true p q = p
-  choose-both false p q = q
-
-  -- the same, where each arm may use what the test said
+  -- what holds of both arms holds of the chosen one, and each arm may use what the test said
   pub choose-case : (b : Bool) {x y : A} → (b ≡ true → P x) → (b ≡ false → P y) → P (cond b x y)
   choose-case true p q = p refl
   choose-case false p q = q refl

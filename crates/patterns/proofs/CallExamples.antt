@@ -29,7 +29,7 @@ calls-with-none = says-none (7 ∷ []) (record { reply = refl; output = refl })
 
 -- the codes written, in order; whether some call said that no code follows; which buffers are long enough for any code
 abbrev some-calls : Call → List Call
-some-calls end = entry (1 ∷ []) ∷ refusal 8 [] ∷ entry (2 ∷ []) ∷ end ∷ []
+some-calls end = entry (1 ∷ []) ∷ end ∷ refusal 8 [] ∷ entry (2 ∷ []) ∷ []
 
 pub read-off :
     (entries (some-calls said-last) ≡ (1 ∷ []) ∷ (2 ∷ []) ∷ [])

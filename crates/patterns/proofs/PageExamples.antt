@@ -1,9 +1,12 @@
 -- Entry "a page of codes", computed in the list of 3 points, which has seven codes.
 use mathlib.Core.Path.{_≡_, refl}
-use mathlib.Core.List.{List, [], _∷_, _++_}
+use mathlib.Core.List.{List, [], _∷_, _++_, head-eq-of-cons-eq}
 use Prim.Native.Nat.{ℕ}
-use lib.IntN.{pos, negℤ}
-use Rattle.patterns.specs.Replies.{page-is, page-refused}
+use native.Mathlib.Omega.{arith}
+use lib.IntN.{ℤ, pos, negℤ}
+use Rattle.patterns.specs.declared.Refusal.the-variants.{Count, Wanted}
+use Rattle.patterns.specs.declared.reply.Page.the-variants.{Written, Refused}
+use Rattle.patterns.specs.Replies.{PageAnswer, page-is, page-refused, pageAnswer}
 use Rattle.patterns.specs.Page.{pageOf, PageReplied}
 use Rattle.patterns.specs.SignedReplies.{PageReported}
 
@@ -100,4 +103,22 @@ page-reported = (
   record { codes-are = refl; bytes-are = refl; output = refl },
   record { codes-are = refl; bytes-are = refl; output = refl },
   record { codes-are = refl; bytes-are = refl; output = refl },
+)
+
+-- what the cases of the running reply say
+pub page-answers : (pageAnswer (Written 2 12) ≡ page-is 2 12) × (pageAnswer (Refused Count) ≡ page-refused 1) × (pageAnswer (Refused Wanted) ≡ page-refused 10)
+page-answers = (refl, refl, refl)
+
+-- whatever the reply says, the output is as it must be: a page is there, and a refusal has left all as it was
+pub page-not-left-out : {a : PageAnswer} {codes bytes : ℤ}
+    → (PageReplied (pageOf 1 third) six a six → ⊥)
+    × (PageReported (pageOf 1 third) six codes bytes six → ⊥)
+    × (PageReplied (pageOf 1001 third) six a fourth → ⊥)
+    × (PageReported (pageOf 1001 third) six codes bytes fourth → ⊥)
+unfolding pageOf
+page-not-left-out = (
+  λ p. let e : _≡_ {A = ℕ} 9 3 = head-eq-of-cons-eq (p .output) in omega arith,
+  λ p. let e : _≡_ {A = ℕ} 9 3 = head-eq-of-cons-eq (p .output) in omega arith,
+  λ p. let e : _≡_ {A = ℕ} 3 9 = head-eq-of-cons-eq (p .output) in omega arith,
+  λ p. let e : _≡_ {A = ℕ} 3 9 = head-eq-of-cons-eq (p .output) in omega arith,
 )
