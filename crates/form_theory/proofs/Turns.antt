@@ -1,22 +1,22 @@
 -- Successor calls made in turn from a code that is accepted: what they write is what comes after it in the list.
-use mathlib.Core.Path.{_≡_, refl, ap, sym, _∙_, subst}
+use mathlib.Core.Path.{_≡_, ap, sym, _∙_}
 use mathlib.Core.Logic.{_⊎_}
 use mathlib.Core.Bool.{true}
 use mathlib.Core.List.{List, _∷_, _++_, map}
-use Prim.Native.Nat.{ℕ, zero, suc, _≤_, _<_}
+use Prim.Native.Nat.{ℕ, _≤_, _<_}
 use native.Mathlib.Omega.{arith}
-use lib.ListN.{length, take, replicate, length-take, length-map}
+use lib.ListN.{length, take, length-take, length-map}
 use Rattle.lists.proofs.Tests.{_∈_, either}
 use Rattle.lists.proofs.Members.{in-list, in-append-right, in-tail}
 use Rattle.lists.proofs.Places.{in-split}
 use Rattle.lists.proofs.Gathering.{take-map}
-use Rattle.patterns.specs.System.{System, weight, canonical, codes}
+use Rattle.patterns.specs.System.{System, weight, codes}
 use Rattle.patterns.specs.Written.{written}
 use Rattle.patterns.specs.Reading.{done, accepted}
 use Rattle.patterns.specs.Page.{later, successors}
-use Rattle.patterns.specs.Calls.{wrote, stepOf, Call, Calls, entries, ended, roomy}
+use Rattle.patterns.specs.Calls.{wrote, Call, Calls, entries, ended, roomy}
 use Rattle.form_theory.proofs.WrittenBack.{written-fits, accepted-canonical}
-use Rattle.form_theory.proofs.Runs.{runOf, calls-exist, calls-run, run-reaches, run-first}
+use Rattle.form_theory.proofs.Runs.{runOf, calls-run, run-reaches, run-first}
 use Rattle.form_theory.proofs.Calls.{finds-later}
 use Rattle.system_theory.proofs.Codes.{codes-sound, codes-complete}
 use Rattle.system_theory.proofs.Successors.{later-cut}

@@ -1,5 +1,5 @@
 -- The reply of the page entry: what is refused, and what is put.
-use mathlib.Core.Path.{_≡_, refl, ap, sym, _∙_}
+use mathlib.Core.Path.{_≡_, sym, _∙_}
 use mathlib.Core.Bool.{Bool, true, false}
 use mathlib.Core.List.{List}
 use Prim.Native.Nat.{ℕ, _*_, _≤_, _<_}
@@ -16,7 +16,6 @@ use Rattle.memory.specs.Memory.{Holds}
 use Rattle.memory.proofs.Parts.{held-points}
 use Rattle.form_theory.proofs.PageBytes.{page-fits}
 use Rattle.acceptance.proofs.Taken.{Taken, taken-count, taken-points}
-use Rattle.stepping.specs.HeldSteps.{HeldNext}
 use Rattle.stepping.proofs.Following.{next-canonical}
 use Rattle.paging.specs.HeldPages.{PageRoom, PagePut}
 use Rattle.page_entry.specs.HeldCopies.{HeldCopies}

@@ -60,12 +60,12 @@ entries (said-last ∷ calls) = entries calls
 entries (said-none ∷ calls) = entries calls
 entries (refusal c b ∷ calls) = entries calls
 
--- some call said that no code follows: "last", or "none"
+-- some call said "last"
 abbrev pub ended : List Call → Bool
 ended [] = false
 ended (entry b ∷ calls) = ended calls
 ended (said-last ∷ calls) = true
-ended (said-none ∷ calls) = true
+ended (said-none ∷ calls) = ended calls
 ended (refusal c b ∷ calls) = ended calls
 
 -- how many of the buffers have at least 1,000 bytes

@@ -3,11 +3,11 @@ use mathlib.Core.Path.{_≡_, refl, ap, sym, _∙_}
 use mathlib.Core.Bool.{true}
 use mathlib.Core.List.{List}
 use mathlib.Core.Option.{Option, none, some}
-use Prim.Native.Nat.{ℕ, _≤_}
+use Prim.Native.Nat.{ℕ}
 use native.Mathlib.Omega.{arith}
 use lib.ListN.{length, take, length-take}
 use Rattle.lists.proofs.Tests.{clash}
-use Rattle.patterns.specs.System.{System, weight, canonical}
+use Rattle.patterns.specs.System.{System, canonical}
 use Rattle.memory.specs.Memory.{Holds}
 use Rattle.memory.proofs.Parts.{held-count, held-points, held-unique}
 use Rattle.stepping.specs.declared.Stepped.{Stepped}

@@ -1,5 +1,5 @@
 -- The code that follows another is put into the lent output, or there is none.
-use mathlib.Core.Path.{_≡_, refl, ap, sym, _∙_}
+use mathlib.Core.Path.{_≡_, refl}
 use mathlib.Core.List.{List}
 use Prim.Native.Nat.{ℕ, _≤_}
 use native.Mathlib.Omega.{arith}
@@ -18,7 +18,7 @@ use Rattle.stepping.specs.HeldSteps.{HeldNext, SteppedTo}
 use Rattle.stepping.proofs.Following.{next-canonical, step-over, step-found, next-again}
 use Rattle.system_theory.specs.Step.{step}
 use Rattle.memory.proofs.Parts.{held-points}
-use Rattle.system_theory.proofs.Step.{step-is, step-keeps}
+use Rattle.system_theory.proofs.Step.{step-is}
 use Rattle.writing.proofs.CanonicalHeld.{canonical-held}
 use Rattle.acceptance.proofs.Taken.{Taken, taken-count}
 
