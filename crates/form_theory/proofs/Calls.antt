@@ -19,7 +19,7 @@ use Rattle.patterns.specs.Page.{later}
 use Rattle.patterns.proofs.Trees.{compareSystem-lawful}
 use Rattle.patterns.specs.Calls.{State, fresh, wrote, stepOf, Call, refusal, Calls, entries, ended, roomy, Once, Map, codeOf, Isomorphic, Enumeration}
 use Rattle.form_theory.proofs.WrittenBack.{written-back, written-fits, written-equal, accepted-canonical}
-use Rattle.form_theory.proofs.Runs.{Finds, no-code, code, runOf, calls-run, run-order, run-refusals, run-ends}
+use Rattle.form_theory.proofs.Runs.{Finds, at-end, at-code, runOf, calls-run, run-order, run-refusals, run-ends}
 use Rattle.system_theory.proofs.Codes.{codes-sound, codes-complete, codes-different}
 use Rattle.system_theory.proofs.Successors.{later-cut}
 
@@ -53,8 +53,8 @@ left-next {m} {n} {s} {S} {r} h l =
 
 -- the calls find all of them
 finds-left : {m n : ℕ} {s : State} → n ≤ 200 → (r : List System) → Left m n s r → Finds (stepOf m) s r
-finds-left h [] l = no-code (l .step)
-finds-left h (S ∷ r) l = code (l .step) (finds-left h r (left-next h l))
+finds-left h [] l = at-end (l .step)
+finds-left h (S ∷ r) l = at-code (l .step) (finds-left h r (left-next h l))
 
 -- From the first code on the calls find the whole list, and from a code that is accepted all that comes after it.
 pub finds-codes : (n : ℕ) → n ≤ 200 → Finds (stepOf n) fresh (codes n)

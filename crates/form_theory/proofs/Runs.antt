@@ -38,8 +38,8 @@ calls-exist step (b ∷ bs) s = next-call (λ t. calls-exist step bs t) (answere
 
 -- Finds step s r: from state s on the calls find the codes of r, one after another, and then "last"
 pub data Finds (step : State → Outcome ℕ) : State → List System → Type 0 where
-  no-code : {s : State} → step s ≡ ends → Finds step s []
-  code : {s : State} {S : System} {r : List System} → step s ≡ gives (written S) → Finds step (wrote (written S)) r → Finds step s (S ∷ r)
+  at-end : {s : State} → step s ≡ ends → Finds step s []
+  at-code : {s : State} {S : System} {r : List System} → step s ≡ gives (written S) → Finds step (wrote (written S)) r → Finds step s (S ∷ r)
 
 -- the calls that are made where the codes of r are still to come
 unfoldable pub runOf : List System → List (List ℕ) → List Call
@@ -95,19 +95,19 @@ pub calls-run : {step : State → Outcome ℕ} {s : State} {buffers : List (List
     → calls ≡ runOf r buffers
 unfolding runOf
 calls-run no-buffer f = refl
-calls-run (writes k after p more) (no-code e) = let q = rw e at (p .reply) in clash cc
-calls-run {step} (writes {before = b} {rest = bs} k after p more) (code {S = S} {r = r} e f) =
+calls-run (writes k after p more) (at-end e) = let q = rw e at (p .reply) in clash cc
+calls-run {step} (writes {before = b} {rest = bs} k after p more) (at-code {S = S} {r = r} e f) =
     let q = found-length (written S) k (rw e at p) in
     let i = calls-run {r = r} more (rw (q .1) f) in
     rw (run-writes S r b bs (q .0)) (ap₂ (λ e c. entry e ∷ c) (q .1) i)
-calls-run (says-last after p) (no-code e) = refl
-calls-run (says-last after p) (code {S = S} e f) = absurd (found-last (written S) (rw e at p))
-calls-run (says-none after p) (no-code e) = let q = rw e at (p .reply) in clash cc
-calls-run (says-none after p) (code {S = S} e f) = absurd (found-none (written S) (rw e at p))
-calls-run (refuses c after p more) (no-code e) = let q = rw e at (p .reply) in clash cc
-calls-run (refuses {before = b} {rest = bs} c after p more) (code {S = S} {r = r} e f) =
+calls-run (says-last after p) (at-end e) = refl
+calls-run (says-last after p) (at-code {S = S} e f) = absurd (found-last (written S) (rw e at p))
+calls-run (says-none after p) (at-end e) = let q = rw e at (p .reply) in clash cc
+calls-run (says-none after p) (at-code {S = S} e f) = absurd (found-none (written S) (rw e at p))
+calls-run (refuses c after p more) (at-end e) = let q = rw e at (p .reply) in clash cc
+calls-run (refuses {before = b} {rest = bs} c after p more) (at-code {S = S} {r = r} e f) =
     let q = found-refused (written S) c (rw e at p) in
-    let i = calls-run more (code e f) in
+    let i = calls-run more (at-code e f) in
     rw (run-refuses S r b bs (q .0)) (ap₂ (λ c calls. refusal c b ∷ calls) (q .1) i)
 
 -- what the calls write is a beginning of the list, and all of it where one says "last"
