@@ -24,7 +24,8 @@ use Rattle.patterns.specs.Calls.{wrote, Call, Calls, stepOf, entries, ended, ro
 use Rattle.form_theory.proofs.Runs.{calls-exist}
 use Rattle.form_theory.proofs.WrittenBack.{accepted-canonical}
 use Rattle.form_theory.proofs.PageBytes.{page-fits}
-use Rattle.form_theory.proofs.Turns.{list-cut, turns-first, turns-last, successors-few}
+use Rattle.system_theory.proofs.Successors.{list-cut}
+use Rattle.form_theory.proofs.Turns.{turns-first, turns-last, successors-few}
 
 -- codes one after another with nothing between them
 abbrev pub joined : List (List ℕ) → List ℕ
@@ -95,7 +96,7 @@ module _ (wanted : ℕ) (b : List ℕ) {before after : List ℕ} {k l : ℕ} (p 
   page-short h =
       let w = page-written in
       let S = w .0 in
-      let c = list-cut b (w .1) in
+      let c = list-cut S (accepted-canonical b S (w .1) .0) in
       let all : take wanted (later S) ≡ later S = take-all wanted (later S) (omega (arith, w .2, length-take wanted (later S))) in
       (S, w .1, c .0, c .1 ∙ ap (λ l. c .0 ++ (S ∷ l)) (sym all))
 

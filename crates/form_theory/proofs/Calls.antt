@@ -21,7 +21,7 @@ use Rattle.patterns.specs.Calls.{State, fresh, wrote, stepOf, Call, refusal, Ca
 use Rattle.form_theory.proofs.WrittenBack.{written-back, written-fits, written-equal, accepted-canonical}
 use Rattle.form_theory.proofs.Runs.{Finds, at-end, at-code, runOf, calls-run, run-order, run-refusals, run-ends}
 use Rattle.system_theory.proofs.Codes.{codes-sound, codes-complete, codes-different}
-use Rattle.system_theory.proofs.Successors.{later-cut}
+use Rattle.system_theory.proofs.Successors.{list-cut}
 
 -- In state s the codes of r are still to come, of the list of n points. Once a code is written, the count m that "first code" was asked for is of no account.
 record Left (m n : ℕ) (s : State) (r : List System) : Type 0 where
@@ -63,8 +63,8 @@ finds-codes n h = finds-left h (codes n) (left-first n h)
 pub finds-later : (m : ℕ) (b : List ℕ) (S : System) → accepted b ≡ done S → Finds (stepOf m) (wrote b) (later S)
 finds-later m b S e =
     let k = accepted-canonical b S e in
-    let s = in-split (codes-complete S (k .0)) in
-    rw (later-cut S (s .0) (s .1) (s .2)) (finds-left (k .1) (s .1) (left-after m e refl (s .0) (s .1) (s .2)))
+    let c = list-cut S (k .0) in
+    finds-left (k .1) (later S) (left-after m e refl (c .0) (later S) (c .1))
 
 module _ {n : ℕ} (small : n ≤ 200) where
   code-facts : (S : System) → S ∈ codes n → (canonical S ≡ true) × (weight S ≡ n) × (weight S ≤ 200)

@@ -2,15 +2,14 @@
 use mathlib.Core.Path.{_≡_, ap, sym, _∙_}
 use mathlib.Core.Logic.{_⊎_}
 use mathlib.Core.Bool.{true}
-use mathlib.Core.List.{List, _∷_, _++_, map}
+use mathlib.Core.List.{List, map}
 use Prim.Native.Nat.{ℕ, _≤_, _<_}
 use native.Mathlib.Omega.{arith}
 use lib.ListN.{length, take, length-take, length-map}
 use Rattle.lists.proofs.Tests.{_∈_, either}
 use Rattle.lists.proofs.Members.{in-list, in-append-right, in-tail}
-use Rattle.lists.proofs.Places.{in-split}
 use Rattle.lists.proofs.Gathering.{take-map}
-use Rattle.patterns.specs.System.{System, weight, codes}
+use Rattle.patterns.specs.System.{System, weight}
 use Rattle.patterns.specs.Written.{written}
 use Rattle.patterns.specs.Reading.{done, accepted}
 use Rattle.patterns.specs.Page.{later, successors}
@@ -18,8 +17,8 @@ use Rattle.patterns.specs.Calls.{wrote, Call, Calls, entries, ended, roomy}
 use Rattle.form_theory.proofs.WrittenBack.{written-fits, accepted-canonical}
 use Rattle.form_theory.proofs.Runs.{runOf, calls-run, run-reaches, run-first}
 use Rattle.form_theory.proofs.Calls.{finds-later}
-use Rattle.system_theory.proofs.Codes.{codes-sound, codes-complete}
-use Rattle.system_theory.proofs.Successors.{later-cut}
+use Rattle.system_theory.proofs.Codes.{codes-sound}
+use Rattle.system_theory.proofs.Successors.{list-cut}
 
 -- the next k codes, as they are written
 pub successors-written : (k : ℕ) (S : System) → map written (successors k S) ≡ take k (map written (later S))
@@ -31,18 +30,11 @@ unfolding successors
 successors-few k S = omega (arith, length-take k (later S))
 
 module _ (b : List ℕ) {S : System} (a : accepted b ≡ done S) where
-  -- where the list is cut
-  pub list-cut : (earlier : List System) × (codes (weight S) ≡ earlier ++ (S ∷ later S))
-  list-cut =
-      let k = accepted-canonical b S a in
-      let s = in-split (codes-complete S (k .0)) in
-      (s .0, s .2 ∙ ap (λ l. s .0 ++ (S ∷ l)) (sym (later-cut S (s .0) (s .1) (s .2))))
-
   -- 1,000 bytes hold each code that follows
   pub later-fits : (R : System) → R ∈ later S → length (written R) ≤ 804
   later-fits R m =
       let k = accepted-canonical b S a in
-      let c = list-cut in
+      let c = list-cut S (k .0) in
       let r = codes-sound (weight S) R (in-list (sym (c .1)) (in-append-right (c .0) (in-tail m))) in
       written-fits R (r .0) (omega (arith, r .1))
 

@@ -16,7 +16,7 @@ use Rattle.memory.specs.Memory.{Holds}
 use Rattle.memory.proofs.Parts.{held-points}
 use Rattle.form_theory.proofs.PageBytes.{page-fits}
 use Rattle.acceptance.proofs.Taken.{Taken, taken-count, taken-points}
-use Rattle.stepping.proofs.Following.{next-canonical}
+use Rattle.stepping.proofs.Following.{held-next, next-canonical}
 use Rattle.paging.specs.HeldPages.{PageRoom, PagePut}
 use Rattle.page_entry.specs.HeldCopies.{HeldCopies}
 
@@ -33,55 +33,44 @@ module _ {sizes : List ℕ} {m : ℕ} {trees : List ℕ} {n wanted : ℕ} (w : H
     fits : b ≡ false → (S : System) → Holds S (take m sizes) (take n trees) → length (pageBytes (successors wanted S)) ≤ length before
     fits f S i = ltb-false (length before) (length (pageBytes (successors wanted S))) (sym (e S i) ∙ f)
 
-    pub page-short : b ≡ true → (S : System) → Holds S (take m sizes) (take n trees) → PageReplied (done (successors wanted S)) before (page-refused 8) before
-    page-short t S i =
+    pub short-replied : b ≡ true → (S : System) → Holds S (take m sizes) (take n trees) → PageReplied (done (successors wanted S)) before (page-refused 8) before
+    short-replied t S i =
         let bytes = pageBytes (successors wanted S) in
         let short = lt-leb (length bytes) (length before) (ltb-true (length before) (length bytes) (sym (e S i) ∙ t)) in
         record { reply = rw short; output = rw short }
 
-    pub page-room : b ≡ false → PageRoom sizes m (take n trees) wanted before
-    page-room f = record { held = w .held; room = fits f (w .held .system) (w .held .holds) }
+    pub page-fits-in : b ≡ false → PageRoom sizes m (take n trees) wanted before
+    page-fits-in f = record { held = w .held; room = fits f (w .held .system) (w .held .holds) }
 
-    pub page-put : b ≡ false → {a : PageAnswer} {after : List ℕ} → ((S : System) → Holds S (take m sizes) (take n trees) → PagePut (successors wanted S) before a after)
+    pub whole-replied : b ≡ false → {a : PageAnswer} {after : List ℕ} → ((S : System) → Holds S (take m sizes) (take n trees) → PagePut (successors wanted S) before a after)
         → (S : System) → Holds S (take m sizes) (take n trees) → PageReplied (done (successors wanted S)) before a after
-    page-put f p S i =
+    whole-replied f p S i =
         let bytes = pageBytes (successors wanted S) in
         let whole = le-leb (length bytes) (length before) (fits f S i) in
         record { reply = rw whole (p S i .reply); output = rw whole (p S i .output) }
 
 -- Too many are wanted.
-pub page-wanted : (wanted : ℕ) (b before : List ℕ) → 1000 < wanted → PageReplied (pageOf wanted b) before (page-refused 10) before
+pub too-many-replied : (wanted : ℕ) (b before : List ℕ) → 1000 < wanted → PageReplied (pageOf wanted b) before (page-refused 10) before
 unfolding pageOf
-page-wanted wanted b before h = let t = lt-ltb 1000 wanted h in record { reply = rw t; output = rw t }
+too-many-replied wanted b before h = let t = lt-ltb 1000 wanted h in record { reply = rw t; output = rw t }
 
 module _ {wanted : ℕ} (few : wanted ≤ 1000) where
   -- The code is refused.
-  pub page-fault : (b before : List ℕ) (c : Refusal) → accepted b ≡ fault c → PageReplied (pageOf wanted b) before (page-refused (numberOf c)) before
+  pub fault-replied : (b before : List ℕ) (c : Refusal) → accepted b ≡ fault c → PageReplied (pageOf wanted b) before (page-refused (numberOf c)) before
   unfolding pageOf
-  page-fault b before c e = let t = le-ltb 1000 wanted few in record { reply = rw (t, e); output = rw (t, e) }
+  fault-replied b before c e = let t = le-ltb 1000 wanted few in record { reply = rw (t, e); output = rw (t, e) }
 
   -- The code is accepted.
   module _ {b sizes trees : List ℕ} {m n : ℕ} (t : Taken b sizes trees m n) where
     pub taken-copies : length sizes ≡ 200 → length trees ≡ 200 → HeldCopies sizes m trees n wanted
     taken-copies u v =
-        record {
-          held =
-              record {
-                system = t .system;
-                holds = t .holds;
-                canonical-is = t .canonical-is;
-                within = taken-count t;
-                places = u;
-                small = omega (arith, length-take n trees);
-              };
-          within = taken-points t;
-          few = few;
-        }
+        let held = held-next (t .holds) (t .canonical-is) (taken-count t) u (omega (arith, length-take n trees)) in
+        record { held = held; within = taken-points t; few = few }
 
-    pub page-replied : {before after : List ℕ} {a : PageAnswer}
+    pub taken-replied : {before after : List ℕ} {a : PageAnswer}
         → ((S : System) → Holds S (take m sizes) (take n trees) → PageReplied (done (successors wanted S)) before a after) → PageReplied (pageOf wanted b) before a after
     unfolding pageOf
-    page-replied p =
+    taken-replied p =
         let q = p (t .system) (t .holds) in
         let k = le-ltb 1000 wanted few in
         record { reply = rw (k, t .is) (q .reply); output = rw (k, t .is) (q .output) }

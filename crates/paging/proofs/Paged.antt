@@ -22,7 +22,7 @@ use Rattle.stepping.proofs.Following.{next-canonical, step-over, next-again, ne
 use Rattle.written.specs.Putting.{Placed}
 use Rattle.written.proofs.Placing.{placed-start, placed-then}
 use Rattle.writing.specs.Writable.{SystemRoom}
-use Rattle.form_theory.proofs.Readback.{canonical-nonempty}
+use Rattle.writing.proofs.CanonicalHeld.{canonical-held}
 use Rattle.writing.proofs.Placements.{placed-same}
 use Rattle.paging.specs.HeldPages.{HeldPage, PageRoom, PagePut}
 
@@ -31,8 +31,7 @@ pub next-small : {sizes : List ℕ} {k : ℕ} {trees : List ℕ} (h : HeldNext s
 next-small h = omega (arith, held-points (h .holds), h .small)
 
 abbrev pub next-written : {sizes : List ℕ} {k : ℕ} {trees : List ℕ} → HeldNext sizes k trees → HeldSystem (take k sizes) trees
-next-written h =
-    record { system = h .system; holds = h .holds; each-nonempty = canonical-nonempty (h .system) (h .canonical-is); small = next-small h }
+next-written h = canonical-held (h .holds) (h .canonical-is) (next-small h)
 
 -- of the codes after S those of `made` were gone past, i of them; memory holds the last, or S
 pub record Paged (S : System) (wanted : ℕ) (sizes : List ℕ) (k : ℕ) (trees : List ℕ) (i : ℕ) (made : List System) : Type 0 where
@@ -120,14 +119,14 @@ module _ {S : System} {wanted : ℕ} {sizes : List ℕ} {k : ℕ} {trees : List 
           }
 
 -- The page measured.
-pub record Measuring (S : System) (wanted : ℕ) (sizes : List ℕ) (k : ℕ) (trees : List ℕ) (bytes i : ℕ) : Type 0 where
+pub record Measured (S : System) (wanted : ℕ) (sizes : List ℕ) (k : ℕ) (trees : List ℕ) (bytes i : ℕ) : Type 0 where
   pub made : List System
   pub paged : Paged S wanted sizes k trees i made
   pub total : bytes ≡ length (pageBytes made)
 
 module _ {sizes : List ℕ} {m : ℕ} {trees : List ℕ} {wanted : ℕ} (w : HeldPage sizes m trees wanted) where
-  pub measuring-start : (S : System) → Holds S (take m sizes) trees → Measuring S wanted sizes m trees 0 0
-  measuring-start S i = record { made = []; paged = paged-start wanted (w .held) S i; total = refl }
+  pub measured-start : (S : System) → Holds S (take m sizes) trees → Measured S wanted sizes m trees 0 0
+  measured-start S i = record { made = []; paged = paged-start wanted (w .held) S i; total = refl }
 
   -- a page takes at most a million bytes
   pub page-small : (S : System) → Holds S (take m sizes) trees → length (pageBytes (successors wanted S)) ≤ 1000000
@@ -136,22 +135,22 @@ module _ {sizes : List ℕ} {m : ℕ} {trees : List ℕ} {wanted : ℕ} (w : Hel
       let c = next-canonical h S i in
       omega (arith, page-fits wanted S c (omega (arith, held-points i, h .small)), w .few)
 
-module _ {S : System} {wanted : ℕ} {sizes : List ℕ} {k : ℕ} {trees : List ℕ} {bytes i : ℕ} (w : Measuring S wanted sizes k trees bytes i) where
+module _ {S : System} {wanted : ℕ} {sizes : List ℕ} {k : ℕ} {trees : List ℕ} {bytes i : ℕ} (w : Measured S wanted sizes k trees bytes i) where
   -- it is what was gone past
-  pub measured : successors wanted S ≡ w .made → bytes ≡ length (pageBytes (successors wanted S))
-  measured e = w .total ∙ ap (λ l. length (pageBytes l)) (sym e)
+  pub measured-all : successors wanted S ≡ w .made → bytes ≡ length (pageBytes (successors wanted S))
+  measured-all e = w .total ∙ ap (λ l. length (pageBytes l)) (sym e)
 
   module _ {sizes′ : List ℕ} {j : ℕ} {trees′ : List ℕ} (a : Advanced S wanted i (w .made) sizes′ j trees′) {n : ℕ} (e : n ≡ length (written (a .held .system))) where
-    pub measuring-next : Measuring S wanted sizes′ j trees′ (bytes + n) (i + 1)
-    measuring-next =
+    pub measured-next : Measured S wanted sizes′ j trees′ (bytes + n) (i + 1)
+    measured-next =
         record {
           made = w .made ++ (a .held .system ∷ []);
           paged = a .paged;
           total = omega (arith, w .total, ap length (a .bytes), length-append (pageBytes (w .made)) (written (a .held .system)));
         }
 
-    pub measuring-fits : bytes + n ≤ length (pageBytes (successors wanted S))
-    measuring-fits = omega (arith, w .total, a .fits)
+    pub measured-fits : bytes + n ≤ length (pageBytes (successors wanted S))
+    measured-fits = omega (arith, w .total, a .fits)
 
 -- The page written: what stands in the output so far.
 pub record Writing (S : System) (wanted : ℕ) (before sizes : List ℕ) (k : ℕ) (trees out : List ℕ) (at i : ℕ) : Type 0 where

@@ -21,13 +21,13 @@ unfolding firstOf
 first-of-200 = refl
 
 -- the rightmost component moves; then the sizes move; the last code has none after it
-pub successors : AllHold (
+pub codes-that-follow : AllHold (
     successor-of (3 ∷ 2 ∷ 1 ∷ 1 ∷ 2 ∷ 1 ∷ 1 ∷ []) (3 ∷ 2 ∷ 1 ∷ 1 ∷ 1 ∷ 2 ∷ 1 ∷ [])
     ∷ successor-of (3 ∷ 2 ∷ 1 ∷ 1 ∷ 1 ∷ 2 ∷ 1 ∷ []) (3 ∷ 1 ∷ 3 ∷ 1 ∷ 1 ∷ 1 ∷ [])
     ∷ no-successor (3 ∷ 1 ∷ 2 ∷ 1 ∷ 2 ∷ 1 ∷ [])
     ∷ [])
 unfolding AllHold successorOf
-successors = (refl, (refl, (refl, tt)))
+codes-that-follow = (refl, (refl, (refl, tt)))
 
 -- what is no code has no successor
 pub successor-of-no-code : successorOf (3 ∷ 1 ∷ 2 ∷ 1 ∷ 2 ∷ 1 ∷ 1 ∷ []) ≡ fails Trailing

@@ -64,12 +64,12 @@ page-of-none = (
 )
 
 -- one byte too few is 8, though the first code fits, and nothing is written
-pub page-room :
+pub page-one-byte-short :
     PageReplied (pageOf 2 third) (six ++ (9 ∷ 9 ∷ 9 ∷ 9 ∷ 9 ∷ [])) (page-refused 8) (six ++ (9 ∷ 9 ∷ 9 ∷ 9 ∷ 9 ∷ []))
     × PageReplied (pageOf 1 third) (six ++ (9 ∷ [])) (page-is 1 6) (fourth ++ (9 ∷ []))
     × PageReplied (pageOf 1 third) [] (page-refused 8) []
 unfolding pageOf
-page-room = (
+page-one-byte-short = (
   record { reply = refl; output = refl },
   record { reply = refl; output = refl },
   record { reply = refl; output = refl },
@@ -94,12 +94,12 @@ page-checks = (
 )
 
 -- the two numbers for C, and a refusal in both
-pub page-reported :
+pub page-numbers :
     PageReported (pageOf 2 third) (six ++ six) (pos 2) (pos 12) (fourth ++ fifth)
     × PageReported (pageOf 1001 third) six (negℤ (pos 10)) (negℤ (pos 10)) six
     × PageReported (pageOf 2 third) six (negℤ (pos 8)) (negℤ (pos 8)) six
 unfolding pageOf
-page-reported = (
+page-numbers = (
   record { codes-are = refl; bytes-are = refl; output = refl },
   record { codes-are = refl; bytes-are = refl; output = refl },
   record { codes-are = refl; bytes-are = refl; output = refl },

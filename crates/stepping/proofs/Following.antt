@@ -3,7 +3,7 @@ use mathlib.Core.Path.{_≡_, refl, ap, sym, _∙_}
 use mathlib.Core.Bool.{true}
 use mathlib.Core.List.{List}
 use mathlib.Core.Option.{Option, none, some}
-use Prim.Native.Nat.{ℕ}
+use Prim.Native.Nat.{ℕ, _≤_}
 use native.Mathlib.Omega.{arith}
 use lib.ListN.{length, take, length-take}
 use Rattle.lists.proofs.Tests.{clash}
@@ -15,6 +15,11 @@ use Rattle.stepping.specs.declared.Stepped.the-variants.{Next, Last}
 use Rattle.stepping.specs.HeldSteps.{HeldStep, HeldNext, SteppedTo}
 use Rattle.system_theory.specs.Step.{step}
 use Rattle.system_theory.proofs.Step.{step-keeps}
+
+-- a canonical system in the first places of 200
+pub held-next : {S : System} {sizes : List ℕ} {m : ℕ} {trees : List ℕ} → Holds S (take m sizes) trees → canonical S ≡ true → m ≤ length sizes → length sizes ≡ 200
+    → length trees ≤ 200 → HeldNext sizes m trees
+held-next {S} h c w u v = record { system = S; holds = h; canonical-is = c; within = w; places = u; small = v }
 
 module _ {sizes : List ℕ} {m : ℕ} {trees : List ℕ} (h : HeldNext sizes m trees) where
   pub next-asked : (up side out : List ℕ) → length up ≡ 200 → length side ≡ 200 → length out ≡ 200 → HeldStep sizes m trees up side out

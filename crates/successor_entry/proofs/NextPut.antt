@@ -15,7 +15,7 @@ use Rattle.memory.specs.Memory.{Holds, HeldSystem}
 use Rattle.stepping.specs.declared.Stepped.{Stepped}
 use Rattle.stepping.specs.declared.Stepped.the-variants.{Next, Last}
 use Rattle.stepping.specs.HeldSteps.{HeldNext, SteppedTo}
-use Rattle.stepping.proofs.Following.{next-canonical, step-over, step-found, next-again}
+use Rattle.stepping.proofs.Following.{held-next, next-canonical, step-over, step-found, next-again}
 use Rattle.system_theory.specs.Step.{step}
 use Rattle.memory.proofs.Parts.{held-points}
 use Rattle.system_theory.proofs.Step.{step-is}
@@ -56,15 +56,7 @@ successor-refused b before c e = rw e (record { reply = refl; output = refl })
 
 module _ {b sizes trees : List ℕ} {m n : ℕ} (t : Taken b sizes trees m n) where
   pub taken-next : length sizes ≡ 200 → length trees ≡ 200 → HeldNext sizes m (take n trees)
-  taken-next u v =
-      record {
-        system = t .system;
-        holds = t .holds;
-        canonical-is = t .canonical-is;
-        within = taken-count t;
-        places = u;
-        small = omega (arith, length-take n trees);
-      }
+  taken-next u v = held-next (t .holds) (t .canonical-is) (taken-count t) u (omega (arith, length-take n trees))
 
   pub successor-put : {before after : List ℕ} {a : Answer}
       → ((S : System) → Holds S (take m sizes) (take n trees) → Replied (listed (next compareSystem S (codes (weight S)))) before a after)

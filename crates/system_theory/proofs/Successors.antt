@@ -7,13 +7,13 @@ use Prim.Native.Nat.{ℕ, zero, suc}
 use lib.ListN.{drop}
 use Rattle.lists.specs.Select.{from}
 use Rattle.lists.proofs.Members.{lawful-decides, nodup-apart, in-head}
-use Rattle.lists.proofs.Places.{from-split}
+use Rattle.lists.proofs.Places.{in-split, from-split}
 use Rattle.lists.proofs.Follow.{within-some, within-last}
 use Rattle.patterns.specs.System.{System, weight, canonical, codes, compareSystem}
 use Rattle.patterns.specs.Page.{later, successors}
 use Rattle.patterns.proofs.Trees.{compareSystem-lawful}
 use Rattle.system_theory.specs.Step.{step}
-use Rattle.system_theory.proofs.Codes.{codes-different}
+use Rattle.system_theory.proofs.Codes.{codes-complete, codes-different}
 use Rattle.system_theory.proofs.Step.{step-within, step-keeps}
 
 -- where the list is cut at S, the rest comes after S
@@ -24,6 +24,12 @@ later-cut S a b e =
     ∙ ap (drop 1) (from-split (lawful-decides compareSystem-lawful) a S b (λ m. nodup-apart a (rw e at (codes-different (weight S))) m in-head))
 
 module _ (S : System) (c : canonical S ≡ true) where
+  -- the list, cut at S
+  pub list-cut : (earlier : List System) × (codes (weight S) ≡ earlier ++ (S ∷ later S))
+  list-cut =
+      let s = in-split (codes-complete S c) in
+      (s .0, s .2 ∙ ap (λ l. s .0 ++ (S ∷ l)) (sym (later-cut S (s .0) (s .1) (s .2))))
+
   pub later-step : (R : System) → step S ≡ some R → later S ≡ R ∷ later R
   later-step R e =
       let w = within-some (rw e at (step-within S c)) in

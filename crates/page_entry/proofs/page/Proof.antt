@@ -4,7 +4,7 @@ use Prim.Native.Nat.{ℕ}
 use native.Mathlib.Omega.{arith}
 use borrow.Author.Needs.{needs}
 use Rattle.acceptance.proofs.Taken.{Taken, code-taken, code-refused}
-use Rattle.page_entry.proofs.PageReply.{page-wanted, page-fault, taken-copies, page-replied}
+use Rattle.page_entry.proofs.PageReply.{too-many-replied, fault-replied, taken-copies, taken-replied}
 use Rattle.page_entry.proofs.page.Statement.{statement}
 use Rattle.page_entry.proofs.page.Tie as tie
 
@@ -34,13 +34,13 @@ taken c =
     code-taken (code k) (k .accept-into .ensures) (told .0 .0) (told .0 .1 .0) (told .1)
 
 returns : tie.Need-returns
-returns c = let s = start (c .before) in page-wanted (s .args .wanted) (now (s .args .code)) (now (s .args .out)) (omega (arith, c .if1 .taken))
+returns c = let s = start (c .before) in too-many-replied (s .args .wanted) (now (s .args .code)) (now (s .args .out)) (omega (arith, c .if1 .taken))
 
 returns-2 : tie.Need-returns-2
 returns-2 c =
     let k = accepting (c .before .before .before) in
     let told = c .before .cause .given in
-    page-fault (few k .if1 .left) (code k) (now (begun k .args .out)) (told .0 .0) (code-refused (code k) (k .accept-into .ensures) (told .0 .0) (told .1))
+    fault-replied (few k .if1 .left) (code k) (now (begun k .args .out)) (told .0 .0) (code-refused (code k) (k .accept-into .ensures) (told .0 .0) (told .1))
 
 put-page-requires : tie.Need-put-page-requires
 put-page-requires c κs =
@@ -53,7 +53,7 @@ returns-3 c =
     let p = c .before .before in
     let t = p .before .before in
     let f = few (accepting (t .before .before .before)) in
-    page-replied (f .if1 .left) (taken t) (p .put-page .ensures)
+    taken-replied (f .if1 .left) (taken t) (p .put-page .ensures)
 
 pub page-spec : {M : Type 1} → statement M
 page-spec =

@@ -4,7 +4,7 @@ use Prim.Native.Nat.{ℕ}
 use native.Mathlib.Omega.{arith}
 use lib.ListN.{length-take}
 use borrow.Author.Needs.{needs}
-use Rattle.page_entry.proofs.PageReply.{page-short, page-room, page-put}
+use Rattle.page_entry.proofs.PageReply.{short-replied, page-fits-in, whole-replied}
 use Rattle.page_entry.proofs.put_page.Statement.{statement}
 use Rattle.page_entry.proofs.put_page.Tie as tie
 
@@ -21,20 +21,20 @@ fits c = c .before .before
 write-page-requires : tie.Need-write-page-requires
 write-page-requires c κs =
     let f = fits (c .before) in
-    page-room (start (f .before) .pre) (output (f .before)) (f .before .lacks-room .ensures) (f .if1 .left)
+    page-fits-in (start (f .before) .pre) (output (f .before)) (f .before .lacks-room .ensures) (f .if1 .left)
 
 slice-aggregate-write-page-2 : tie.Need-slice-aggregate-write-page-2
 slice-aggregate-write-page-2 c = let within = start (fits c .before) .pre .within in rw length-take (omega arith)
 
 returns : tie.Need-returns
-returns c = let m = c .before in page-short (start m .pre) (output m) (m .lacks-room .ensures) (c .if1 .taken)
+returns c = let m = c .before in short-replied (start m .pre) (output m) (m .lacks-room .ensures) (c .if1 .taken)
 
 returns-2 : tie.Need-returns-2
 returns-2 c =
     let w = c .before .before .before .before in
     let f = fits (w .before .before) in
     let m = f .before in
-    page-put (start m .pre) (output m) (m .lacks-room .ensures) (f .if1 .left) (w .write-page .ensures)
+    whole-replied (start m .pre) (output m) (m .lacks-room .ensures) (f .if1 .left) (w .write-page .ensures)
 
 pub put-page-spec : {M : Type 1} → statement M
 put-page-spec =

@@ -7,13 +7,13 @@ use borrow.Author.Needs.{needs}
 use Rattle.patterns.specs.System.{System}
 use Rattle.memory.specs.Memory.{Holds}
 use Rattle.stepping.specs.HeldSteps.{HeldNext}
-use Rattle.paging.proofs.Paged.{next-written, Advanced, paged-next, paged-all, paged-last, Measuring, measuring-start, measuring-next, measuring-fits, measured, page-small}
+use Rattle.paging.proofs.Paged.{next-written, Advanced, paged-next, paged-all, paged-last, Measured, measured-start, measured-next, measured-fits, measured-all, page-small}
 use Rattle.paging.proofs.length.page_length.Statement.{statement}
 use Rattle.paging.proofs.length.page_length.Tie as tie
 
 abbrev Inv-loop : tie.InvT-loop
 Inv-loop sizes₀ m trees₀ wanted k₀ bytes₀ i₀ sizes trees k bytes i =
-    (length sizes ≡ length sizes₀) × (length trees ≡ length trees₀) × ((S : System) → Holds S (take m sizes₀) trees₀ → Measuring S wanted sizes k trees bytes i)
+    (length sizes ≡ length sizes₀) × (length trees ≡ length trees₀) × ((S : System) → Holds S (take m sizes₀) trees₀ → Measured S wanted sizes k trees bytes i)
 
 abbrev μ-loop : tie.MeasureT-loop
 μ-loop sizes₀ m trees₀ wanted k₀ bytes₀ i₀ sizes trees k bytes i = wanted - i
@@ -47,7 +47,7 @@ abbrev Held : At → System → Type 0
 Held c S = Holds S (take (start c .args .m) (now (start c .args .sizes))) (now (start c .args .trees))
 
 -- the page so far, of the system that was in memory
-abbrev measuring : (c : At) → Measuring (asked c) (start c .args .wanted) (c .loop .sizes) (c .loop .k) (c .loop .trees) (c .loop .bytes) (c .loop .i)
+abbrev measuring : (c : At) → Measured (asked c) (start c .args .wanted) (c .loop .sizes) (c .loop .k) (c .loop .trees) (c .loop .bytes) (c .loop .i)
 measuring c = c .loop .inv .2 (asked c) (start c .pre .held .holds)
 
 -- one code more
@@ -66,7 +66,7 @@ next : (c : Told) → let f = stepped c .follow in HeldNext (f .last .0) (c .bef
 next c = let l = turn (stepped c) .before in advanced c (asked l) (start l .pre .held .holds) .held
 
 loop-holds : tie.Need-loop-holds Inv-loop μ-loop
-loop-holds c = (refl, refl, measuring-start (c .before .before .pre))
+loop-holds c = (refl, refl, measured-start (c .before .before .pre))
 
 follow-requires : tie.Need-follow-requires Inv-loop μ-loop
 follow-requires c κs = measuring (c .before .before .before) .paged .held
@@ -83,7 +83,7 @@ returns c =
     let f = s .follow in
     λ S h.
     let w = turn s .before .loop .inv .2 S h in
-    measured w (paged-last (w .paged) (f .result) (f .last .0) (f .last .1 .1 .0) (f .ensures) (c .enum-told .given .1))
+    measured-all w (paged-last (w .paged) (f .result) (f .last .0) (f .last .1 .1 .0) (f .ensures) (c .enum-told .given .1))
 
 slice-reshare-prefix-system-length : tie.Need-slice-reshare-prefix-system-length Inv-loop μ-loop
 slice-reshare-prefix-system-length c = next c .within
@@ -101,7 +101,7 @@ add-bytes c =
     let h = start l .pre .held .holds in
     let a = advanced k (asked l) h in
     let e = c .system-length .ensures (a .held .system) (a .held .holds) in
-    omega (arith, measuring-fits (measuring l) a e, page-small (start l .pre) (asked l) h)
+    omega (arith, measured-fits (measuring l) a e, page-small (start l .pre) (asked l) h)
 
 loop-again : tie.Need-loop-again Inv-loop μ-loop
 loop-again c =
@@ -110,7 +110,7 @@ loop-again c =
     let l = turn (stepped k) .before .loop in (
       f .kept .0 ∙ l .inv .0,
       f .kept .1 .1 .0 ∙ l .inv .1,
-      λ S h. let a = advanced k S h in measuring-next (l .inv .2 S h) a (c .system-length .ensures (a .held .system) (a .held .holds)),
+      λ S h. let a = advanced k S h in measured-next (l .inv .2 S h) a (c .system-length .ensures (a .held .system) (a .held .holds)),
     )
 
 same-length-3 : tie.Need-same-length-3 Inv-loop μ-loop
@@ -120,7 +120,7 @@ same-length-4 : tie.Need-same-length-4 Inv-loop μ-loop
 same-length-4 c = c .before .loop .inv .1
 
 returns-2 : tie.Need-returns-2 Inv-loop μ-loop
-returns-2 c = λ S h. let w = c .before .loop .inv .2 S h in measured w (paged-all (w .paged) (omega arith))
+returns-2 c = λ S h. let w = c .before .loop .inv .2 S h in measured-all w (paged-all (w .paged) (omega arith))
 
 pub page-length-spec : {M : Type 1} → statement M
 page-length-spec =
