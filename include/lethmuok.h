@@ -6,8 +6,8 @@
  *
  * Replies. Every function but lethmuok_page answers one number, an int64_t, and lethmuok_page two of them; test a number for less than 0 before it becomes a size_t.
  * 0 or more is what the function's comment says, and never more than 1,000, the bytes of a page never more than 1,000,000. From -1 to -99 it is a refusal, minus the
- * number of its cause; lethmuok_page has it in both numbers. -100 and -101 are answers too, and no refusals. A result fills the first places of its buffer, and every
- * other byte of every buffer is kept; with a negative reply all of them are.
+ * number of its cause; lethmuok_page has it in both numbers. -100, -101 and -102 are answers too, and no refusals. A result fills the first places of its buffer, and
+ * every other byte of every buffer is kept; with a negative reply all of them are.
  *
  * Buffers. Each is a pointer and a count of bytes, all of which must be there to be read, and in an output to be written.
  * - No pointer may be null, not even where the count is 0: for a table of no points, or to lend no room, pass the address of any object and the count 0.
@@ -28,7 +28,7 @@
 extern "C" {
 #endif
 
-/* The negative replies: the causes of refusal, and the two that are no refusals. */
+/* The negative replies: the causes of refusal, and the three that are no refusals. */
 enum {
     LETHMUOK_COUNT = -1,         /* a count of points, or the length of a table, is above 200 */
     LETHMUOK_IMAGE = -2,         /* a byte of a table is no point */
@@ -41,7 +41,8 @@ enum {
     LETHMUOK_POSITION = -9,      /* the code has no component at that position */
     LETHMUOK_WANTED = -10,       /* more than 1,000 codes are wanted */
     LETHMUOK_LAST = -100,        /* no code follows in the list */
-    LETHMUOK_NONE = -101         /* there is no isomorphism */
+    LETHMUOK_NONE = -101,        /* there is no isomorphism */
+    LETHMUOK_FIRST = -102        /* no code comes before in the list */
 };
 
 /* What always suffices: points of a map, bytes of a code, entries of a census. And the most codes that may be wanted of a page, which LETHMUOK_MAX_WANTED times
@@ -62,6 +63,9 @@ int64_t lethmuok_first(size_t n, uint8_t *out, size_t out_len);
 
 /* Writes the code that follows in the list; answers its length, or LETHMUOK_LAST. */
 int64_t lethmuok_successor(const uint8_t *code, size_t code_len, uint8_t *out, size_t out_len);
+
+/* Writes the code that comes before in the list; answers its length, or LETHMUOK_FIRST. */
+int64_t lethmuok_predecessor(const uint8_t *code, size_t code_len, uint8_t *out, size_t out_len);
 
 /* Writes the codes that follow in the list, one after another with nothing between them, as many as are wanted, or fewer where the list ends. LETHMUOK_WANTED is
  * told before every fault of the code; where the whole page does not fit, nothing is written, and LETHMUOK_ROOM is told after them all. */

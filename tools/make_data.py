@@ -11,8 +11,8 @@ import plain_model as model
 TOP = os.path.join(os.path.dirname(os.path.realpath(__file__)), "..")
 KEPT = os.path.join(TOP, "crates", "checks", "data")
 MADE = KEPT if sys.argv[1:] == ["--write"] else os.path.join(TOP, "target", "checks-data")
-ACCEPT, FIRST, SUCCESSOR, CODE_OF_MAP, MAP_OF_CODE, ISOMORPHISM, CENSUS = range(1, 8)
-KINDS = {"length": 0, "last": 1, "none": 2, "refused": 3, "census": 0, "part": 0, "page": 0}
+ACCEPT, FIRST, SUCCESSOR, CODE_OF_MAP, MAP_OF_CODE, ISOMORPHISM, CENSUS, PREDECESSOR = range(1, 9)
+KINDS = {"length": 0, "last": 1, "none": 2, "refused": 3, "first": 4, "census": 0, "part": 0, "page": 0}
 WIDE = 1000
 WIDEST = 10000
 
@@ -63,9 +63,12 @@ def case(entry, room, a, b, answer):
     return [entry, room] + a + b + [KINDS[kind], value] + stretch(output)
 
 
+def repeated(code, length):
+    return code if length is None else [code[i % len(code)] for i in range(length)]
+
+
 def accept(code, length=None):
-    whole = code if length is None else [code[i % len(code)] for i in range(length)]
-    return case(ACCEPT, 0, stretch(code, length), [0, 0], model.accept(whole))
+    return case(ACCEPT, 0, stretch(code, length), [0, 0], model.accept(repeated(code, length)))
 
 
 def first(n, room):
@@ -74,6 +77,10 @@ def first(n, room):
 
 def successor(code, room=WIDE):
     return case(SUCCESSOR, room, stretch(code), [0, 0], model.successor(code, room))
+
+
+def predecessor(code, room=WIDE, length=None):
+    return case(PREDECESSOR, room, stretch(code, length), [0, 0], model.predecessor(repeated(code, length), room))
 
 
 def code_of_map(table, room=WIDE):
@@ -132,6 +139,9 @@ def examples():
     def followed(code, following):
         return given(successor(code), "length", len(following), following)
 
+    def preceded(code, before):
+        return given(predecessor(code), "length", len(before), before)
+
     def refused(code, cause):
         return given(accept(code), "refused", cause)
 
@@ -156,6 +166,11 @@ def examples():
     lines.append(given(first(3, WIDE), "length", 8, three[0]))
     lines += [followed(a, b) for a, b in zip(three, three[1:])] + [given(successor(three[-1]), "last", 0)]
     lines += [refused([5, 1, 4, 1, 2, 1, 1, 1], 6), refused([6, 2, 2, 1, 2, 1, 1, 3, 1, 1], 6)]
+    # paper 3 of document 02: the same steps back, "first" for the first code of its count, and the code's own checks before it
+    lines += [given(predecessor(code), "first", 0) for code in ([0, 0], [1, 1, 1, 1], [2, 2, 1, 1, 1, 1], three[0])]
+    lines += [preceded(b, a) for a, b in zip(three, three[1:])]
+    lines.append(preceded([8, 3, 2, 1, 1, 1, 3, 1, 1, 1, 3, 1, 1], [8, 3, 2, 1, 1, 1, 3, 2, 1, 2, 1, 2, 1]))
+    lines += [given(predecessor(three[0] + [9], 0), "refused", 7), given(predecessor(three[0], 0), "first", 0), given(predecessor(three[1], 7), "refused", 8)]
     # the order of checks
     lines += [refused([1, 1, 1, 1, 128], 3), refused([1, 1, 1, 1, 129, 0], 4), refused([201, 1, 128], 3)]
     lines += [refused([3, 1, 2, 3, 1, 1], 3), refused([3, 1, 2, 3, 1, 1, 1], 5), refused([2, 1, 1, 1, 9], 5)]
@@ -166,13 +181,10 @@ def examples():
 
 
 def damaged():
-    lines = []
-    seen = set()
+    given = {}
 
     def add(code):
-        if tuple(code) not in seen:
-            seen.add(tuple(code))
-            lines.append(accept(code))
+        given.setdefault(tuple(code), None)
 
     def damage(code, values):
         for end in range(len(code)):
@@ -215,7 +227,10 @@ def damaged():
         for i, x in enumerate(code):
             add(code[:i] + [x + 1] + code[i + 1 :])
             add(code[:i] + [x - 1] + code[i + 1 :])
-    return lines
+    # every tenth of these codes to the step back too, with room and without
+    back = [predecessor(list(code), WIDE if i % 20 else 0) for i, code in enumerate(given) if i % 10 == 0]
+    assert {line[-3] for line in back if line[-4] == KINDS["refused"]} >= {1, 3, 4, 5, 6, 7}
+    return [accept(list(code)) for code in given] + back
 
 
 def damaged_long():
@@ -258,20 +273,37 @@ def hostile():
         lines += [accept([byte], length) for length in (1, 2, 3, 4, 403, 404, 405, 999, 1000, 1001, 9999, 10000)]
     for pattern in ([200, 1], [200, 1, 1], [255, 127], [128, 1], [129, 0], [200, 1, 200, 1, 1, 1], [200, 1, 1, 200, 1], [3, 1, 1], [1, 200]):
         lines += [accept(pattern, length) for length in (len(pattern), 404, 1000, 9999, 10000)]
+    for pattern in ([0], [1], [128], [255], [200, 1], [200, 1, 200, 1, 1, 1], [129, 0], [3, 1, 1]):
+        lines += [predecessor(pattern, room, length) for room, length in ((0, 404), (WIDE, 10000))]
     return lines
 
 
 # ---- rooms and refusals
 
 
+def rooms_back():
+    """The step back with every cause of refusal, where "first" or 8 would be told next, and with rooms around the length of what comes before."""
+    faults = [[201, 1], [], [128], [3, 3, 1, 1, 1, 1, 1], [129, 0], [128, 128], [0, 1], [1, 0], [3, 2, 2, 1, 1, 1, 1], [0, 0, 0], [0, 0, 128], [3, 1, 3, 1, 1, 1, 1]]
+    lines = [predecessor(fault, room) for fault in faults for room in (0, WIDE)]
+    # what comes before has more bytes than the code, as many, or fewer
+    for code in ([2, 1, 1, 2, 1], [3, 1, 3, 1, 1, 1], [4, 2, 2, 1, 1, 2, 1, 1], model.written([model.cycle(200)]), model.written([model.cycle(1)] * 72 + [model.cycle(128)])):
+        length = len(model.predecessor(code, None)[1])
+        lines += [predecessor(code, room) for room in (0, length - 1, length, length + 1)]
+    lines += [predecessor(model.first(200, None)[1], room) for room in (0, 404, WIDE)]
+    return lines
+
+
 def rooms():
     lines = []
     code = [8, 3, 2, 1, 1, 1, 3, 2, 1, 2, 1, 2, 1]
+    following = [8, 3, 2, 1, 1, 1, 3, 1, 1, 1, 3, 1, 1]
     table = [1, 2, 0, 0, 4, 4, 5]
     for room in (0, 1, 12, 13, 14, 200, 1000, 2000):
         lines.append(successor(code, room))
         lines.append(successor([0, 0], room))
         lines.append(successor([3, 1, 2, 2, 1, 1], room))
+        lines.append(predecessor(following, room))
+        lines += [predecessor(code, room) for code in ([0, 0], [3, 3, 1, 1, 1, 1, 1, 1], [3, 1, 2, 2, 1, 1], [2, 2, 1, 1, 1, 1, 9])]
         lines.append(code_of_map(table, room))
         lines.append(code_of_map([7] * 7, room))
         lines.append(first(6, room))
@@ -284,6 +316,7 @@ def rooms():
         lines.append(first(n, WIDE))
     lines.append(first(200, 404))
     lines.append(first(200, 403))
+    lines += rooms_back()
     for length in (127, 128, 200, 201, 202, 255, 1000, 10000):
         lines.append(case(CODE_OF_MAP, WIDE, stretch([0], length), [0, 0], model.code_of_map([0] * length, WIDE)))
         lines.append(case(CODE_OF_MAP, WIDE, stretch([255], length), [0, 0], model.code_of_map([255] * length, WIDE)))
@@ -385,6 +418,42 @@ def steps():
     for n in (9, 10, 12, 14, 16, 20, 25, 30, 40, 60):
         codes += [model.code_of_map(random_map(numbers, n), WIDE)[1], model.code_of_map(hung(numbers, n, 1 + numbers.below(5)), WIDE)[1]]
     return [successor(code) for code in codes]
+
+
+def small_steps_back():
+    """Every code of up to 5 points; of 6 to 8 points those at which the list of sizes steps, and some more. All have to be what the plain listing has before them."""
+    lines = []
+    for n in range(9):
+        listing = list(plain_listing.systems(n))
+        for i, system in enumerate(listing):
+            line = predecessor(plain_listing.numbers(n, system))
+            before = plain_listing.numbers(n, listing[i - 1]) if i else []
+            assert line[-len(stretch(before)) - 2 :] == [KINDS["length" if i else "first"], len(before)] + stretch(before), line
+            if n < 6 or i % 23 == 0 or [*map(model.points, system)] != [*map(model.points, listing[i - 1])]:
+                lines.append(line)
+    return lines
+
+
+def first_of_sizes():
+    """Codes of 200 points, the first of their lists of sizes, so that what comes before has other sizes: the last size is halved, evenly or not, or an earlier one falls."""
+    sizes = [[200], [1, 199], [3, 197], [1, 2, 197], [99, 101], [100, 100], [66, 67, 67], [50] * 4, [49, 50, 50, 51], [1, 1] + [2] * 99, [2] * 100, [1] * 198 + [2]]
+    return [model.written([model.cycle(s) for s in one]) for one in sizes]
+
+
+def steps_inside():
+    """Codes of 200 points in which another component than the last one steps: those to its right are equal to it, or the first of a greater size."""
+    c, d = [model.system_of_map(hung(Numbers(29), n, 4))[0] for n in (50, 66)]
+    return [model.written(system) for system in ([c] * 4, [model.cycle(50), c, c, c], [c, c, model.cycle(100)], [d, model.cycle(67), model.cycle(67)], [c, model.cycle(150)])]
+
+
+def steps_back():
+    """The step back from any code: small ones, the maps of 200 points, and codes at which the sizes or an inner component step, or at an end of the list."""
+    numbers = Numbers(23)
+    shaped = [model.code_of_map(table, WIDE)[1] for _, table in shapes()]
+    codes = shaped + first_of_sizes() + steps_inside() + [last_code(n) for n in (3, 8, 50, 128, 200)] + [model.first(n, WIDE)[1] for n in (8, 50, 127, 128, 199)]
+    for n in (9, 10, 12, 14, 16, 20, 25, 30, 40, 60):
+        codes += [model.code_of_map(random_map(numbers, n), WIDE)[1], model.code_of_map(hung(numbers, n, 1 + numbers.below(5)), WIDE)[1]]
+    return small_steps_back() + [predecessor(code) for code in codes]
 
 
 def censuses():
@@ -536,7 +605,7 @@ def main():
     os.makedirs(MADE, exist_ok=True)
     files = [(f"listing_{n}", [[line] for line in plain_listing.listing(n)]) for n in range(9)]
     files += [("examples", examples()), ("damaged", damaged()), ("damaged_long", damaged_long()), ("reordered", reordered()), ("hostile", hostile())]
-    files += [("rooms", rooms()), ("steps", steps()), ("codes", codes_of_maps()), ("census", censuses())]
+    files += [("rooms", rooms()), ("steps", steps()), ("steps_back", steps_back()), ("codes", codes_of_maps()), ("census", censuses())]
     files += [("components", components()), ("pages", pages()), ("pages_long", pages_long()), ("pairs", pairs())]
     other = sum(not save(name, lines) for name, lines in files)
     print(f"{len(files)} files in {os.path.relpath(MADE)}, {other} not as in crates/checks/data")

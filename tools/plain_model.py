@@ -1,8 +1,8 @@
 """The entries of the engine, each written from the words of documents 01 and 02 and by other means than the engine: trees are tuples of numbers, components tuples
 of trees, children are all candidate merges that pass the definition's tests, and nothing is fast. tools/make_data.py takes from here what the checks expect.
 
-An answer is a pair: ("length", list of numbers), ("last", None), ("none", None) or ("refused", number of the cause). What has more to say than a length has a word
-of its own: "census", "part" and "page".
+An answer is a pair: ("length", list of numbers), ("last", None), ("first", None), ("none", None) or ("refused", number of the cause). What has more to say than a
+length has a word of its own: "census", "part" and "page".
 """
 import functools
 
@@ -227,6 +227,68 @@ def next_system(system):
     return None if sizes is None else [cycle(s) for s in sizes]
 
 
+# ---- predecessors: what comes before a code is the code that it follows, so it is looked for, and the step forward decides
+
+
+def relatives(c):
+    """Components among which the one before c is found: the walk through the tree of generation goes from one to the next past at most two others, and where it has
+    left siblings behind it comes from the last of them. The cycle, which has no parent, has none before it."""
+    def last_child(d):
+        return children(d)[-1:]
+
+    def elder(d):
+        siblings = children(parent(d)) if parent(d) else [d]
+        return siblings[: siblings.index(d)][-1:]
+
+    p = parent(c)
+    for d in last_child(c) + elder(c) + [p] + elder(p) + [d for d in [parent(p)] if d]:
+        yield d
+        yield from last_child(d)
+
+
+def previous_component(c):
+    """The component that c follows; the order begins with the cycle."""
+    if parent(c) is None:
+        return None
+    return next(d for d in relatives(c) if next_component(d) == c)
+
+
+@functools.lru_cache(None)
+def last_component(n):
+    """What no component of n points follows: it stands at the end of the siblings below the cycle, which at odd depth come after their descendants."""
+    c = (children(cycle(n)) or [cycle(n)])[-1]
+    assert next_component(c) is None
+    return c
+
+
+def previous_sizes(sizes):
+    """The list that this one follows: the longest beginning is kept after which a number can be less, that number is as great as can be, and one number has the rest."""
+    for i in reversed(range(len(sizes))):
+        rest = sum(sizes[i:])
+        for lesser in reversed(range(sizes[i - 1] if i else 1, sizes[i])):
+            if lesser <= rest - lesser:
+                return sizes[:i] + [lesser, rest - lesser]
+    return None
+
+
+def previous_system(system):
+    """The system that this one follows, with the same sizes if there is one. The rightmost moves fastest, so to the right of the one that moved all were last."""
+    for i in reversed(range(len(system))):
+        c = previous_component(system[i])
+        if c is not None:
+            before = system[:i] + [c] + [last_component(points(d)) for d in system[i + 1 :]]
+            if canonical(before):
+                assert next_system(before) == system
+                return before
+    sizes = previous_sizes([points(c) for c in system])
+    if sizes is None:
+        assert all(c == cycle(1) for c in system)
+        return None
+    before = [last_component(s) for s in sizes]
+    assert next_system(before) == system
+    return before
+
+
 # ---- tables
 
 
@@ -277,14 +339,14 @@ def census_of_map(table):
 # ---- the entries: what each answers, given the room of the lent output
 
 
-def replied(work, room=None):
-    """The answer of an entry whose result is work(): 8 comes last, and only where there is a result to write."""
+def replied(work, room=None, end="last"):
+    """The answer of an entry whose result is work(), or which has come to an end of the list: 8 comes last, and only where there is a result to write."""
     try:
         result = work()
     except Refused as cause:
         return "refused", cause.args[0]
     if result is None:
-        return "last", None
+        return end, None
     if room is not None and len(result) > room:
         return "refused", ROOM
     return "length", result
@@ -309,6 +371,14 @@ def successor(code, room):
         return None if following is None else written(following)
 
     return replied(work, room)
+
+
+def predecessor(code, room):
+    def work():
+        before = previous_system(accepted(code))
+        return None if before is None else written(before)
+
+    return replied(work, room, "first")
 
 
 def page(code, wanted, room):

@@ -28,6 +28,7 @@ CAUSES = {
 }
 _LAST = -100
 _NONE = -101
+_FIRST = -102
 _MAX_CODE = 1000
 _MAX_ENTRIES = 19
 _MAX_WANTED = 1000
@@ -115,6 +116,13 @@ def successor(code):
     out = _room(_MAX_CODE)
     reply = _call("lethmuok_successor", _given(code), out)
     return None if reply == _LAST else bytes(out[:reply])
+
+
+def predecessor(code):
+    """The code that comes before in the list, or None where the list begins."""
+    out = _room(_MAX_CODE)
+    reply = _call("lethmuok_predecessor", _given(code), out)
+    return None if reply == _FIRST else bytes(out[:reply])
 
 
 def page(code, wanted):

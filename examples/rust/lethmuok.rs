@@ -31,7 +31,8 @@ causes! {
     Wanted = 10, "more than 1,000 codes are wanted";
 }
 
-/// What every function answers but `page` and `component`. A result fills the first places of its buffer; with another reply than a number all buffers are kept.
+/// What every function answers but `predecessor`, `page` and `component`. A result fills the first places of its buffer; with another reply than a number all buffers are
+/// kept.
 #[derive(Clone, Copy, Debug, PartialEq, Eq)]
 pub enum Reply {
     /// the length of what was written, or the number that was asked for
@@ -40,6 +41,16 @@ pub enum Reply {
     Last,
     /// there is no isomorphism
     Lacking,
+    Refused(Refusal),
+}
+
+/// What `predecessor` answers.
+#[derive(Clone, Copy, Debug, PartialEq, Eq)]
+pub enum Predecessor {
+    /// the length of the code that was written
+    Length(usize),
+    /// no code comes before in the list
+    First,
     Refused(Refusal),
 }
 
@@ -66,6 +77,7 @@ mod c {
         pub fn lethmuok_accept(code: *const u8, code_len: usize) -> i64;
         pub fn lethmuok_first(n: usize, out: *mut u8, out_len: usize) -> i64;
         pub fn lethmuok_successor(code: *const u8, code_len: usize, out: *mut u8, out_len: usize) -> i64;
+        pub fn lethmuok_predecessor(code: *const u8, code_len: usize, out: *mut u8, out_len: usize) -> i64;
         pub fn lethmuok_page(code: *const u8, code_len: usize, wanted: usize, out: *mut u8, out_len: usize) -> PageReply;
         pub fn lethmuok_code_of_map(table: *const u8, n: usize, out: *mut u8, out_len: usize) -> i64;
         pub fn lethmuok_map_of_code(code: *const u8, code_len: usize, out: *mut u8, out_len: usize) -> i64;
@@ -104,6 +116,15 @@ pub fn first(n: usize, out: &mut [u8]) -> Reply {
 /// Writes the code that follows in the list, or says `Last`.
 pub fn successor(code: &[u8], out: &mut [u8]) -> Reply {
     unsafe { c::lethmuok_successor(code.as_ptr(), code.len(), out.as_mut_ptr(), out.len()) }.into()
+}
+
+/// Writes the code that comes before in the list, or says `First`.
+pub fn predecessor(code: &[u8], out: &mut [u8]) -> Predecessor {
+    match unsafe { c::lethmuok_predecessor(code.as_ptr(), code.len(), out.as_mut_ptr(), out.len()) } {
+        -102 => Predecessor::First,
+        length if length >= 0 => Predecessor::Length(length as usize),
+        other => Predecessor::Refused(refusal(-other).expect("the library has no other answers")),
+    }
 }
 
 /// Writes the codes that follow in the list, one after another with nothing between them, as many as are wanted, or fewer where the list ends.

@@ -2,7 +2,7 @@
 
 use crate::component::Component;
 use crate::map::{checked, cycle_lengths, height as height_of, map_of_system, system_of_map};
-use crate::system::{accepted, successor as next};
+use crate::system::{accepted, predecessor as previous, successor as next};
 use crate::written::write;
 use crate::{Cause, MOST_POINTS, MOST_WANTED};
 
@@ -11,6 +11,9 @@ pub const LAST: i64 = -100;
 
 /// The reply where there is no isomorphism.
 pub const NONE: i64 = -101;
+
+/// The reply of a predecessor entry to the first code of its count.
+pub const FIRST: i64 = -102;
 
 fn reply(result: Result<i64, Cause>) -> i64 {
     result.unwrap_or_else(|cause| -(cause as i64))
@@ -37,6 +40,13 @@ pub fn successor(code: &[u8], out: &mut [u8]) -> i64 {
     reply(accepted(code).and_then(|system| match next(&system) {
         None => Ok(LAST),
         Some(following) => put(&write(&following).0, out),
+    }))
+}
+
+pub fn predecessor(code: &[u8], out: &mut [u8]) -> i64 {
+    reply(accepted(code).and_then(|system| match previous(&system) {
+        None => Ok(FIRST),
+        Some(before) => put(&write(&before).0, out),
     }))
 }
 

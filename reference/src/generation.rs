@@ -23,15 +23,28 @@ fn child_at(parent: &Component, place: usize) -> Option<Component> {
     is_least_rotation(&flat).then_some(Component { flat, trees: parent.trees - 1 })
 }
 
-/// The first child at this place or a later one.
-fn child_from(parent: &Component, place: usize) -> Option<Component> {
-    if parent.trees < 2 {
-        return None;
-    }
+/// How many pairs of trees may become a child, by a left merge or a right one, and how many pairs there are: at their number the places of the right merges begin.
+fn places(parent: &Component) -> (usize, usize) {
     // A child's leftmost tree that is no point is the merged one, so only points stand before it.
     let pairs = parent.trees - 1;
-    let starts = pairs.min(parent.leading_points() + 1);
+    (pairs.min(parent.leading_points() + 1), pairs)
+}
+
+/// The first child at this place or a later one.
+fn child_from(parent: &Component, place: usize) -> Option<Component> {
+    let (starts, pairs) = places(parent);
     (place..starts).chain(place.max(pairs)..pairs + starts).find_map(|p| child_at(parent, p))
+}
+
+/// The last child before this place.
+fn child_before(parent: &Component, place: usize) -> Option<Component> {
+    let (starts, pairs) = places(parent);
+    (0..place.min(starts)).chain(pairs..place.min(pairs + starts)).rev().find_map(|p| child_at(parent, p))
+}
+
+/// The last of all children.
+fn last_child(parent: &Component) -> Option<Component> {
+    child_before(parent, usize::MAX)
 }
 
 /// The first one written of a component and its descendants.
@@ -61,6 +74,40 @@ pub fn successor(c: &Component) -> Option<Component> {
         }
     }
     after_descendants(c.clone())
+}
+
+/// The last one written of a component and its descendants.
+fn finished(c: Component) -> Component {
+    if c.depth() % 2 == 0 {
+        last_child(&c).unwrap_or(c)
+    } else {
+        c
+    }
+}
+
+/// What is written before a component and all its descendants.
+fn before_descendants(mut c: Component) -> Option<Component> {
+    let place = c.climb()?;
+    match child_before(&c, place) {
+        Some(sibling) => Some(finished(sibling)),
+        None if c.depth() % 2 == 0 => Some(c),
+        None => before_descendants(c),
+    }
+}
+
+/// The component that is generated just before.
+pub fn predecessor(c: &Component) -> Option<Component> {
+    if c.depth() % 2 == 1 {
+        if let Some(child) = last_child(c) {
+            return Some(finished(child));
+        }
+    }
+    before_descendants(c.clone())
+}
+
+/// The component of so many points that is generated last.
+pub fn last(points: usize) -> Component {
+    finished(Component::cycle(points))
 }
 
 /// A component's place among its siblings, and those of all its ancestors, from the cycle down.

@@ -5,8 +5,9 @@
 //! How independent it is: it shares no code and no data structure with the engine, and its author had not read the engine's code. But the author had read the same
 //! notes on the definitions and on how unclear places are read as the authors of the definitions, so a misreading that stands in those notes would stand in both, and
 //! no comparison would show it. The published examples, lists and totals, which both are held against, guard against that.
+//! The step back came later, and its author had read the notes after which the engine's is made; `tools/plain_model.py` looks for it by the step forward alone.
 //!
-//! A reply is a length or n, minus the number of the cause of a refusal, or one of [`LAST`] and [`NONE`]; that of a page is two numbers, [`PageReply`].
+//! A reply is a length or n, minus the number of the cause of a refusal, or one of [`LAST`], [`NONE`] and [`FIRST`]; that of a page is two numbers, [`PageReply`].
 
 mod component;
 mod entries;

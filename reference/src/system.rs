@@ -52,3 +52,34 @@ pub fn successor(system: &[Component]) -> Option<Vec<Component>> {
     let sizes = next_sizes(system.iter().map(Component::points).collect())?;
     Some(sizes.into_iter().map(Component::cycle).collect())
 }
+
+/// The nondecreasing list before, with the same sum: the rightmost size that can be less is so by as little as can be, and one size takes the rest.
+fn previous_sizes(mut sizes: Vec<usize>) -> Option<Vec<usize>> {
+    let mut rest = 0;
+    while let Some(size) = sizes.pop() {
+        rest += size;
+        // What is left must not be less again, which binds only where the last size is parted.
+        let less = (size - 1).min(rest / 2);
+        if less >= *sizes.last().unwrap_or(&1) {
+            sizes.extend([less, rest - less]);
+            return Some(sizes);
+        }
+    }
+    None
+}
+
+/// The rightmost component that can take its predecessor does so, and all to the right of it become the last of their sizes.
+pub fn predecessor(system: &[Component]) -> Option<Vec<Component>> {
+    for i in (0..system.len()).rev() {
+        // A component equal to its left neighbour would come to stand before it.
+        if i > 0 && system[i - 1] == system[i] {
+            continue;
+        }
+        if let Some(before) = generation::predecessor(&system[i]) {
+            let last = system[i + 1..].iter().map(|d| generation::last(d.points()));
+            return Some(system[..i].iter().cloned().chain([before]).chain(last).collect());
+        }
+    }
+    let sizes = previous_sizes(system.iter().map(Component::points).collect())?;
+    Some(sizes.into_iter().map(generation::last).collect())
+}

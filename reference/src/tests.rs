@@ -1,4 +1,4 @@
-//! The examples and totals of document 01, and the pages of document 02.
+//! The examples and totals of document 01, and the pages and steps back of document 02.
 
 use crate::*;
 
@@ -146,4 +146,74 @@ fn a_page_is_what_follows_in_the_list() {
             }
         }
     }
+}
+
+/// The code before, or the reply, by the entry.
+fn before(code: &[u8]) -> Result<Vec<u8>, i64> {
+    written(|out| predecessor(code, out))
+}
+
+#[test]
+fn a_step_back_is_what_comes_before_in_the_list() {
+    for n in 0..=9 {
+        let codes = listing(n);
+        assert_eq!(before(&codes[0]), Err(FIRST));
+        for two in codes.windows(2) {
+            assert_eq!(before(&two[1]).as_ref(), Ok(&two[0]));
+        }
+    }
+}
+
+/// Numbers below an end, the same in every run.
+fn random(state: &mut u64, end: usize) -> usize {
+    *state = state.wrapping_mul(6364136223846793005).wrapping_add(1442695040888963407);
+    (*state >> 33) as usize % end
+}
+
+/// A map of n points: any; a component with short ways or long ones; or components of a few points each.
+fn some_map(state: &mut u64, n: usize) -> Vec<u8> {
+    let kind = random(state, 5);
+    let few = 1 + random(state, n);
+    let image = |x: usize| match kind {
+        0 => random(state, n),
+        1 => random(state, x + 1),
+        2 => x.saturating_sub(1 + random(state, 3)),
+        3 if x < few => (x + 1) % few,
+        3 => random(state, x),
+        _ => x - x % few + random(state, few.min(n - (x - x % few))),
+    };
+    (0..n).map(image).map(|image| image as u8).collect()
+}
+
+#[test]
+fn steps_from_any_code_lead_back() {
+    let state = &mut 1;
+    for _ in 0..4000 {
+        let n = 1 + random(state, 200);
+        let code = written(|out| code_of_map(&some_map(state, n), out)).unwrap();
+        match before(&code) {
+            Ok(earlier) => assert_eq!((accept(&earlier), written(|out| successor(&earlier, out)).as_ref()), (n as i64, Ok(&code))),
+            Err(reply) => assert_eq!((reply, written(|out| first(n, out)).as_ref()), (FIRST, Ok(&code))),
+        }
+        match written(|out| successor(&code, out)) {
+            Ok(later) => assert_eq!(before(&later).as_ref(), Ok(&code)),
+            Err(reply) => assert_eq!(reply, LAST),
+        }
+    }
+}
+
+#[test]
+fn refused_steps_back() {
+    let bad: [(&[u8], i64); 7] =
+        [(&[201, 1], -1), (&[], -3), (&[129, 0], -4), (&[0, 1], -5), (&[3, 1, 2, 2, 1, 1], -6), (&[2, 2, 1, 1, 1, 1, 9], -7), (&[3, 1, 3, 1, 1, 1], -8)];
+    for (code, reply) in bad {
+        assert_eq!(predecessor(code, &mut [7; 6]), reply, "{code:?}");
+    }
+    let mut out = [7; 9];
+    assert_eq!(predecessor(&[3, 3, 1, 1, 1, 1, 1, 1], &mut []), FIRST);
+    assert_eq!(predecessor(&[3, 3, 1, 1, 1, 1, 1, 1], &mut out), FIRST);
+    assert_eq!(predecessor(&[3, 1, 3, 1, 1, 1], &mut out[..6]), -8);
+    assert_eq!(out, [7; 9]);
+    assert_eq!(predecessor(&[3, 1, 3, 1, 1, 1], &mut out), 7);
+    assert_eq!(out, [3, 2, 1, 1, 1, 2, 1, 7, 7]);
 }

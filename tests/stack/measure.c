@@ -16,6 +16,7 @@ static uint8_t *top;
 static void accept(void) { lethmuok_accept(code, code_len); }
 static void first(void) { lethmuok_first(table_len, out, sizeof out); }
 static void successor(void) { lethmuok_successor(code, code_len, out, sizeof out); }
+static void predecessor(void) { lethmuok_predecessor(code, code_len, out, sizeof out); }
 static void code_of_map(void) { lethmuok_code_of_map(table, table_len, out, sizeof out); }
 static void map_of_code(void) { lethmuok_map_of_code(code, code_len, out, sizeof out); }
 static void isomorphism(void) { lethmuok_isomorphism(table, table_len, other, table_len, out, sizeof out); }
@@ -37,8 +38,8 @@ static struct entry {
     void (*call)(void);
     size_t most;
 } entries[] = {
-    {"accept", accept, 0}, {"first", first, 0}, {"successor", successor, 0}, {"page", page, 0}, {"code_of_map", code_of_map, 0}, {"map_of_code", map_of_code, 0},
-    {"isomorphism", isomorphism, 0}, {"census", census, 0}, {"height", height, 0}, {"longest_cycle", longest_cycle, 0},
+    {"accept", accept, 0}, {"first", first, 0}, {"successor", successor, 0}, {"predecessor", predecessor, 0}, {"page", page, 0}, {"code_of_map", code_of_map, 0},
+    {"map_of_code", map_of_code, 0}, {"isomorphism", isomorphism, 0}, {"census", census, 0}, {"height", height, 0}, {"longest_cycle", longest_cycle, 0},
     {"component_start", component_start, 0}, {"component_end", component_end, 0},
 };
 enum { ENTRIES = sizeof entries / sizeof entries[0] };

@@ -3,12 +3,14 @@
 pub mod maps;
 pub mod random;
 
-/// The entries of one implementation. A reply is a length or n, minus the number of the cause of a refusal, [`LAST`] or [`NONE`]; that of a page is a [`PageReply`].
+/// The entries of one implementation. A reply is a length or n, minus the number of the cause of a refusal, [`LAST`], [`NONE`] or [`FIRST`]; that of a page is a
+/// [`PageReply`].
 pub struct Side {
     pub name: &'static str,
     pub accept: fn(&[u8]) -> i64,
     pub first: fn(usize, &mut [u8]) -> i64,
     pub successor: fn(&[u8], &mut [u8]) -> i64,
+    pub predecessor: fn(&[u8], &mut [u8]) -> i64,
     pub page: fn(&[u8], usize, &mut [u8]) -> PageReply,
     pub code_of_map: fn(&[u8], &mut [u8]) -> i64,
     pub map_of_code: fn(&[u8], &mut [u8]) -> i64,
@@ -20,7 +22,7 @@ pub struct Side {
     pub component_end: fn(&[u8], usize) -> i64,
 }
 
-pub use reference::{PageReply, LAST, MOST_WANTED, NONE};
+pub use reference::{PageReply, FIRST, LAST, MOST_WANTED, NONE};
 
 /// Bytes that hold every page.
 pub const EVERY_PAGE: usize = 1_000_000;
@@ -28,11 +30,15 @@ pub const EVERY_PAGE: usize = 1_000_000;
 /// Whether the library has the entry `page`; `bench/against` may be given one from before it.
 pub const HAS_PAGE: bool = cfg!(not(without_page));
 
+/// The same of the entry `predecessor`.
+pub const HAS_PREDECESSOR: bool = cfg!(not(without_predecessor));
+
 pub const REFERENCE: Side = Side {
     name: "reference",
     accept: reference::accept,
     first: reference::first,
     successor: reference::successor,
+    predecessor: reference::predecessor,
     page: reference::page,
     code_of_map: reference::code_of_map,
     map_of_code: reference::map_of_code,
@@ -51,6 +57,8 @@ mod c {
         pub fn lethmuok_accept(code: *const u8, len: usize) -> i64;
         pub fn lethmuok_first(n: usize, out: *mut u8, room: usize) -> i64;
         pub fn lethmuok_successor(code: *const u8, len: usize, out: *mut u8, room: usize) -> i64;
+        #[cfg(not(without_predecessor))]
+        pub fn lethmuok_predecessor(code: *const u8, len: usize, out: *mut u8, room: usize) -> i64;
         #[cfg(not(without_page))]
         pub fn lethmuok_page(code: *const u8, len: usize, wanted: usize, out: *mut u8, room: usize) -> super::PageReply;
         pub fn lethmuok_code_of_map(table: *const u8, n: usize, out: *mut u8, room: usize) -> i64;
@@ -70,6 +78,10 @@ pub const ENGINE: Side = Side {
     accept: |code| unsafe { c::lethmuok_accept(code.as_ptr(), code.len()) },
     first: |n, out| unsafe { c::lethmuok_first(n, out.as_mut_ptr(), out.len()) },
     successor: |code, out| unsafe { c::lethmuok_successor(code.as_ptr(), code.len(), out.as_mut_ptr(), out.len()) },
+    #[cfg(not(without_predecessor))]
+    predecessor: |code, out| unsafe { c::lethmuok_predecessor(code.as_ptr(), code.len(), out.as_mut_ptr(), out.len()) },
+    #[cfg(without_predecessor)]
+    predecessor: |_, _| panic!("this library has no predecessor"),
     #[cfg(not(without_page))]
     page: |code, wanted, out| unsafe { c::lethmuok_page(code.as_ptr(), code.len(), wanted, out.as_mut_ptr(), out.len()) },
     #[cfg(without_page)]

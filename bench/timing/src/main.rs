@@ -7,23 +7,28 @@ mod labelg;
 mod work;
 
 use clock::own_seconds;
-use sides::{ENGINE, HAS_PAGE, REFERENCE};
+use sides::{Side, ENGINE, HAS_PAGE, HAS_PREDECESSOR, REFERENCE};
 use work::Work;
 
-/// Each work is repeated so often, the two sides taking turns.
+/// Each work is repeated so often, what is compared taking turns.
 const ROUNDS: usize = 15;
 
-/// The best time of each side for one call of the work, in microseconds.
-pub fn best(work: &Work) -> [f64; 2] {
-    let mut best = [f64::INFINITY; 2];
+/// The best time of each side for one call of its work, in microseconds.
+fn in_turn<const N: usize>(runs: [(&Work, &Side); N]) -> [f64; N] {
+    let mut best = [f64::INFINITY; N];
     for _ in 0..ROUNDS {
-        for (best, side) in best.iter_mut().zip([&ENGINE, &REFERENCE]) {
+        for (best, (work, side)) in best.iter_mut().zip(runs) {
             let start = own_seconds();
             std::hint::black_box((work.run)(side));
-            *best = best.min(own_seconds() - start);
+            *best = best.min((own_seconds() - start) * 1e6 / work.calls as f64);
         }
     }
-    best.map(|seconds| seconds * 1e6 / work.calls as f64)
+    best
+}
+
+/// The best time of engine and reference for one call of the work.
+pub fn best(work: &Work) -> [f64; 2] {
+    in_turn([(work, &ENGINE), (work, &REFERENCE)])
 }
 
 /// A time with three digits that count.
@@ -48,9 +53,25 @@ fn table(title: &str, works: Vec<Work>) {
     works.iter().for_each(row);
 }
 
+/// The engine's steps back beside its steps forward: the same steps back, and steps back from the same codes.
+fn steps_back() {
+    println!("\n## Predecessor and successor of the engine on codes of 200 points\n");
+    println!("| work | successor, µs a call | the same steps back, µs a call | / successor | back from the same codes, µs a call | / successor |");
+    println!("|---|---:|---:|---:|---:|---:|");
+    for ((forward, returns), before) in work::successors().iter().zip(&work::returns()).zip(&work::predecessors()) {
+        let [f, r, b] = in_turn([forward, returns, before].map(|work| (work, &ENGINE)));
+        println!("| {} | {} | {} | {:.2} | {} | {:.2} |", forward.name, digits(f), digits(r), r / f, digits(b), b / f);
+    }
+}
+
 fn main() {
     table("Listing", vec![work::listing(12)]);
     table("Successors of codes of 200 points", work::successors());
+    if HAS_PREDECESSOR {
+        table("Predecessors of codes of 200 points, the same steps back", work::returns());
+        table("Predecessors of codes of 200 points, from the same codes", work::predecessors());
+        steps_back();
+    }
     if HAS_PAGE {
         table("Pages of up to 1,000 codes of 200 points", work::pages());
     }

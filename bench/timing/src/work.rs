@@ -19,15 +19,21 @@ fn digest(sum: u64, bytes: &[u8]) -> u64 {
     bytes.iter().fold(sum, |sum, &byte| (sum ^ byte as u64).wrapping_mul(0x100_0000_01b3))
 }
 
+/// The entry of a side that steps from a code to a neighbour in the list.
+type Step = fn(&Side) -> fn(&[u8], &mut [u8]) -> i64;
+
+const FORWARD: Step = |side| side.successor;
+const BACK: Step = |side| side.predecessor;
+
 /// Codes from a given one on, at most so many: their number, and their digest if it is asked for.
-fn walk(side: &Side, start: &[u8], steps: usize, digested: bool) -> (usize, u64) {
+fn walk(step: fn(&[u8], &mut [u8]) -> i64, start: &[u8], steps: usize, digested: bool) -> (usize, u64) {
     let (mut code, mut next) = ([0; 1000], [0; 1000]);
     let (mut length, mut sum) = (start.len(), 0);
     code[..length].copy_from_slice(start);
-    for step in 0..steps {
-        let reply = (side.successor)(&code[..length], &mut next);
+    for made in 0..steps {
+        let reply = step(&code[..length], &mut next);
         if reply < 0 {
-            return (step, sum);
+            return (made, sum);
         }
         length = reply as usize;
         std::mem::swap(&mut code, &mut next);
@@ -38,11 +44,11 @@ fn walk(side: &Side, start: &[u8], steps: usize, digested: bool) -> (usize, u64)
     (steps, sum)
 }
 
-fn walks(name: String, starts: Vec<Vec<u8>>, steps: usize) -> Work {
-    let all = move |side: &Side, digested| starts.iter().map(|start| walk(side, start, steps, digested)).collect::<Vec<_>>();
+fn walks(name: String, step: Step, starts: Vec<Vec<u8>>, steps: usize) -> Work {
+    let all = move |side: &Side, digested| starts.iter().map(|start| walk(step(side), start, steps, digested)).collect::<Vec<_>>();
     let all = std::rc::Rc::new(all);
     let same = all.clone();
-    // Each walk ends with a call too, the one that is told "last", unless it is cut short.
+    // Each walk ends with a call too, the one that is told "last" or "first", unless it is cut short.
     let calls = all(&REFERENCE, false).iter().map(|&(made, _)| if made < steps { made + 1 } else { made }).sum();
     Work { name, calls, run: Box::new(move |side| all(side, false).len() as u64), agree: Box::new(move || same(&ENGINE, true) == same(&REFERENCE, true)) }
 }
@@ -50,7 +56,7 @@ fn walks(name: String, starts: Vec<Vec<u8>>, steps: usize) -> Work {
 /// All codes of n points.
 pub fn listing(n: usize) -> Work {
     let first = written(|out| (REFERENCE.first)(n, out)).expect("a first code");
-    walks(format!("all codes of {n} points"), vec![first], usize::MAX)
+    walks(format!("all codes of {n} points"), FORWARD, vec![first], usize::MAX)
 }
 
 /// The code of one component, made of stretches of equal trees.
@@ -72,8 +78,15 @@ fn tables((_, kind): Kind, number: usize) -> Vec<Vec<u8>> {
     (0..number).map(|_| kind(POINTS, random)).collect()
 }
 
+/// Codes from which so many steps are made, and their name.
+struct Starts {
+    name: String,
+    codes: Vec<Vec<u8>>,
+    steps: usize,
+}
+
 /// A thousand steps from each of the extreme codes, and from the code of each kind of map; where chance has a part in the map, a hundred from each of ten.
-pub fn successors() -> Vec<Work> {
+fn starts() -> Vec<Starts> {
     let extreme: [(&str, Vec<u8>); 6] = [
         ("200 points along one cycle", component(&[(200, &[1])])),
         ("196 points along a cycle, then a path of 4", component(&[(196, &[1]), (1, &[4, 3, 2, 1])])),
@@ -85,14 +98,42 @@ pub fn successors() -> Vec<Work> {
         }),
         ("trees of 2 along the whole cycle", component(&[(100, &[2, 1])])),
     ];
-    let mut works: Vec<Work> = extreme.into_iter().map(|(name, code)| walks(name.into(), vec![code], 1000)).collect();
+    let mut all: Vec<Starts> = extreme.into_iter().map(|(name, code)| Starts { name: name.into(), codes: vec![code], steps: 1000 }).collect();
     for kind in KINDS {
-        let mut starts: Vec<Vec<u8>> = tables(kind, 10).iter().map(|table| code_of(table)).collect();
-        starts.dedup();
-        let steps = 1000 / starts.len();
-        works.push(walks(format!("from the map: {}", kind.0), starts, steps));
+        let mut codes: Vec<Vec<u8>> = tables(kind, 10).iter().map(|table| code_of(table)).collect();
+        codes.dedup();
+        let steps = 1000 / codes.len();
+        all.push(Starts { name: format!("from the map: {}", kind.0), codes, steps });
     }
-    works
+    all
+}
+
+pub fn successors() -> Vec<Work> {
+    starts().into_iter().map(|from| walks(from.name, FORWARD, from.codes, from.steps)).collect()
+}
+
+/// As many steps back from the same codes; where the list begins before, fewer.
+pub fn predecessors() -> Vec<Work> {
+    starts().into_iter().map(|from| walks(from.name, BACK, from.codes, from.steps)).collect()
+}
+
+/// Where the reference comes in so many steps forward, and how many it makes up to there; at the end of the list they are fewer.
+fn end_of_walk(start: &[u8], steps: usize) -> (Vec<u8>, usize) {
+    let mut code = start.to_vec();
+    for made in 0..steps {
+        let Ok(next) = written(|out| (REFERENCE.successor)(&code, out)) else { return (code, made) };
+        code = next;
+    }
+    (code, steps)
+}
+
+/// The steps of the successors once more, back from where each walk ends to where it began.
+pub fn returns() -> Vec<Work> {
+    let back = |from: Starts| {
+        let (ends, made): (Vec<Vec<u8>>, Vec<usize>) = from.codes.iter().map(|code| end_of_walk(code, from.steps)).unzip();
+        walks(from.name, BACK, ends, made.into_iter().min().unwrap_or(0))
+    };
+    starts().into_iter().map(back).collect()
 }
 
 /// A page in an output of so many bytes, all of which are compared.

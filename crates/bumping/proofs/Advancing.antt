@@ -13,9 +13,9 @@ use Rattle.patterns.specs.Component.{Component, points, flat, validComponent}
 use Rattle.patterns.specs.System.{System}
 use Rattle.patterns.proofs.Trees.{length-flat}
 use Rattle.component_theory.specs.Successor.{successor}
-use Rattle.component_theory.proofs.Successor.{successor-valid}
+use Rattle.component_theory.proofs.Successor.{neighbour-valid}
 use Rattle.children.specs.Candidates.{Gave}
-use Rattle.generation.specs.HeldNodes.{Node}
+use Rattle.scanning.specs.HeldNodes.{Node}
 use Rattle.system_theory.specs.Step.{fills}
 use Rattle.memory.specs.Memory.{Holds}
 use Rattle.size_lists.specs.SizesHeld.{sum, fillTrees}
@@ -50,11 +50,11 @@ module _ {c : Component} {T : System} {sizes trees : List ℕ} (h : Holds (c ∷
 
   -- its successor, if there is one, in front of what is filled in to the right of it
   found : validComponent c ≡ true → (o : Option Component) → o ≡ successor c → (r : Bool) (last rest after : List ℕ) → Gave o r last → not r ≡ false
-      → after ≡ gather (fillTrees (take (getD sizes 0 0) (last ++ rest))) sizes → Advanced o T true trees after
+      → after ≡ gather (fillTrees (take (getD sizes 0 0) (last ++ rest))) sizes → Advanced o (λ d. fills d (map points T)) true trees after
   found v none e true last rest after g f q = absurd (true≢false g)
   found v none e false last rest after g f q = absurd (true≢false f)
   found v (some d) e r last rest after g f q =
-      let p = successor-valid c d v (sym e) in
+      let p = neighbour-valid true c d v (sym e) in
       let n : length last ≡ getD sizes 0 0 = ap length (g .1) ∙ length-flat d ∙ p .1 ∙ sym ahead-size in (
         refl,
         q
@@ -64,10 +64,10 @@ module _ {c : Component} {T : System} {sizes trees : List ℕ} (h : Holds (c ∷
             ∙ ap (gather flat) (sym (fill-here d (points c) (map points T) (p .1))),
       )
 
-  missing : (o : Option Component) → (r : Bool) (last : List ℕ) → Gave o r last → not r ≡ true → Advanced o T false trees trees
-  missing none r last g f = (refl, refl)
-  missing (some d) true last g f = absurd (true≢false (sym f))
-  missing (some d) false last g f = absurd (true≢false (sym (g .0)))
+  pub advanced-missing : (o : Option Component) (filling : Component → System) (r : Bool) (last : List ℕ) → Gave o r last → not r ≡ true → Advanced o filling false trees trees
+  advanced-missing none filling r last g f = (refl, refl)
+  advanced-missing (some d) filling true last g f = absurd (true≢false (sym f))
+  advanced-missing (some d) filling false last g f = absurd (true≢false (sym (g .0)))
 
 module _ {sizes trees up side out : List ℕ} (w : HeldAhead sizes trees up side out) where
   ahead-short : getD sizes 0 0 ≤ length trees
@@ -90,21 +90,27 @@ module _ {sizes trees up side out : List ℕ} (w : HeldAhead sizes trees up side
       record { trees = w .first; is = ahead-part (w .holds); valid = w .valid; small = omega (arith, ahead-length, ahead-short, w .small) }
 
   module _ (r : Bool) (last : List ℕ) (g : (c : Component) → take (getD sizes 0 0) trees ≡ flat c → Gave (successor c) r last) where
-    pub advance-none : not r ≡ true → (c : Component) (T : System) → Holds (c ∷ T) sizes trees → Advanced (successor c) T false trees trees
-    advance-none f c T h = missing h (successor c) r last (g c (ahead-part h)) f
+    pub advance-none : not r ≡ true → (c : Component) (T : System) → Holds (c ∷ T) sizes trees → Advanced (successor c) (λ d. fills d (map points T)) false trees trees
+    advance-none f c T h = advanced-missing h (successor c) (λ d. fills d (map points T)) r last (g c (ahead-part h)) f
 
     pub advance-some : not r ≡ false → (rest after : List ℕ) → after ≡ gather (fillTrees (take (getD sizes 0 0) (last ++ rest))) sizes
-        → (c : Component) (T : System) → Holds (c ∷ T) sizes trees → Advanced (successor c) T true trees after
+        → (c : Component) (T : System) → Holds (c ∷ T) sizes trees → Advanced (successor c) (λ d. fills d (map points T)) true trees after
     advance-some f rest after q c T h =
         let e : w .first ≡ c = head-eq-of-cons-eq (held-unique (w .holds) h) in
         found h (ap validComponent (sym e) ∙ w .valid) (successor c) refl r last rest after (g c (ahead-part h)) f q
 
 -- what an advance says, by its answer
-pub advanced-none : (o : Option Component) (T : System) (before after : List ℕ) → Advanced o T false before after → (o ≡ none) × (after ≡ before)
-advanced-none none T before after a = (refl, a .1)
-advanced-none (some d) T before after a = absurd (true≢false (sym (a .0)))
+module _ (o : Option Component) (filling : Component → System) (before after : List ℕ) where
+  pub advanced-none : Advanced o filling false before after → (o ≡ none) × (after ≡ before)
+  advanced-none a = of o a
+    where
+      of : (o : Option Component) → Advanced o filling false before after → (o ≡ none) × (after ≡ before)
+      of none a = (refl, a .1)
+      of (some d) a = absurd (true≢false (sym (a .0)))
 
-pub advanced-some : (o : Option Component) (T : System) (before after : List ℕ) → Advanced o T true before after
-    → (d : Component) × (o ≡ some d) × (after ≡ gather flat (d ∷ fills d (map points T)))
-advanced-some none T before after a = absurd (true≢false (a .0))
-advanced-some (some d) T before after a = (d, refl, a .1)
+  pub advanced-some : Advanced o filling true before after → (d : Component) × (o ≡ some d) × (after ≡ gather flat (d ∷ filling d))
+  advanced-some a = of o a
+    where
+      of : (o : Option Component) → Advanced o filling true before after → (d : Component) × (o ≡ some d) × (after ≡ gather flat (d ∷ filling d))
+      of none a = absurd (true≢false (a .0))
+      of (some d) a = (d, refl, a .1)

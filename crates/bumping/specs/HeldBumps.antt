@@ -1,15 +1,14 @@
 -- What the functions of this crate ask of lent slices, and what their answers mean. A system in memory is two slices (`Holds` of crate memory).
 use mathlib.Core.Path.{_≡_}
 use mathlib.Core.Bool.{Bool, true, false}
-use mathlib.Core.List.{List, _∷_, map}
+use mathlib.Core.List.{List, _∷_}
 use mathlib.Core.Option.{Option, none, some}
 use Prim.Native.Nat.{ℕ, _≤_}
 use lib.ListN.{length}
 use Rattle.lists.specs.Select.{gather}
-use Rattle.patterns.specs.Component.{Component, points, flat, validComponent}
+use Rattle.patterns.specs.Component.{Component, flat, validComponent}
 use Rattle.patterns.specs.System.{System, canonical}
 use Rattle.memory.specs.Memory.{Holds}
-use Rattle.system_theory.specs.Step.{fills}
 
 -- slices for work, of at least n places each
 pub record Work (n : ℕ) (up side out : List ℕ) : Type 0 where
@@ -26,10 +25,10 @@ pub record HeldAhead (sizes trees up side out : List ℕ) : Type 0 where
   pub small : length trees ≤ 200
   pub work : Work (length trees) up side out
 
--- d, if there is one, in front of what is filled in to the right of it; r says whether there is, and where there is none nothing has changed
-abbrev pub Advanced : Option Component → System → Bool → List ℕ → List ℕ → Type 0
-Advanced none T r before after = (r ≡ false) × (after ≡ before)
-Advanced (some d) T r before after = (r ≡ true) × (after ≡ gather flat (d ∷ fills d (map points T)))
+-- d, if there is one, in front of what fills the places to the right of it; r says whether there is, and where there is none nothing has changed
+abbrev pub Advanced : Option Component → (Component → System) → Bool → List ℕ → List ℕ → Type 0
+Advanced none filling r before after = (r ≡ false) × (after ≡ before)
+Advanced (some d) filling r before after = (r ≡ true) × (after ≡ gather flat (d ∷ filling d))
 
 -- a canonical system of at most 200 points
 pub record HeldCanonical (sizes trees up side out : List ℕ) : Type 0 where
@@ -39,7 +38,7 @@ pub record HeldCanonical (sizes trees up side out : List ℕ) : Type 0 where
   pub small : length trees ≤ 200
   pub work : Work (length trees) up side out
 
--- the next system with the same sizes, if there is one, and r says whether there is
+-- another system with the same sizes, if there is one, and r says whether there is
 abbrev pub Bumped : Option System → Bool → List ℕ → List ℕ → Type 0
 Bumped none r sizes trees = r ≡ false
 Bumped (some T) r sizes trees = (r ≡ true) × Holds T sizes trees

@@ -2,11 +2,11 @@
 use size_lists::fill_right;
 use succession::successor;
 ghost use denote.Ref.{now};
-ghost use mathlib.Core.List.{_∷_};
+ghost use mathlib.Core.List.{_∷_, map};
 ghost use Rattle.patterns.specs.System.{System};
-ghost use Rattle.patterns.specs.Component.{Component};
+ghost use Rattle.patterns.specs.Component.{Component, points};
 ghost use Rattle.component_theory.specs.Successor.{successor as successorOf};
-ghost use Rattle.system_theory.specs.Step.{bump as bumpOf};
+ghost use Rattle.system_theory.specs.Step.{fills, bump as bumpOf};
 ghost use Rattle.memory.specs.Memory.{Holds};
 ghost use Rattle.bumping.specs.HeldBumps.{HeldAhead, Advanced, HeldCanonical, Bumped};
 
@@ -14,7 +14,7 @@ ghost use Rattle.bumping.specs.HeldBumps.{HeldAhead, Advanced, HeldCanon
 fn advance(sizes: &[u8], trees: &mut [u8], up: &mut [u8], side: &mut [u8], out: &mut [u8]) -> bool
     requires { ⌜ HeldAhead (now sizes) (now trees) (now up) (now side) (now out) ⌝ }
     ensures { λ r. ⌜ ((c : Component) (T : System) → Holds (c ∷ T) (now (sizes .entry)) (now (trees .entry))
-        → Advanced (successorOf c) T r (now (trees .entry)) (now (trees .exit))) ⌝ }
+        → Advanced (successorOf c) (λ d. fills d (map points T)) r (now (trees .entry)) (now (trees .exit))) ⌝ }
 {
     let size = sizes[0] as usize;
     if !successor(

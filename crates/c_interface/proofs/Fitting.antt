@@ -15,7 +15,7 @@ use Rattle.patterns.specs.declared.Refusal.the-variants.{Room}
 use Rattle.patterns.specs.System.{System, weight}
 use Rattle.patterns.specs.Reading.{Result, done, fault, accepted}
 use Rattle.patterns.specs.Replies.{Answer, length-is}
-use Rattle.patterns.specs.Entry.{Outcome, gives, ends, lacks, fails, answer, answered, Replied, acceptOf, IsomorphismReplied}
+use Rattle.patterns.specs.Entry.{Outcome, gives, ends, begins, lacks, fails, answer, answered, Replied, acceptOf, IsomorphismReplied}
 use Rattle.form_theory.proofs.WrittenBack.{accepted-canonical}
 use Rattle.patterns.specs.SignedReplies.{signedOf, Reported, IsomorphismReported}
 pub use Rattle.signed_replies.proofs.Fitting.{Fits, read-back, refused-fits}
@@ -39,6 +39,7 @@ answered-fits (gives l) out h =
     (λ t. rw t (let k = leb-true (length l) (length out) t in record { sfits = omega arith }))
     (λ t. rw t (refused-fits Room))
 answered-fits ends out h = record { sfits = omega arith }
+answered-fits begins out h = record { sfits = omega arith }
 answered-fits lacks out h = record { sfits = omega arith }
 answered-fits (fails c) out h = refused-fits c
 

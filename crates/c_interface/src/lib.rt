@@ -4,6 +4,7 @@ use signed_replies::PageReply;
 use signed_replies::end_number;
 use signed_replies::isomorphism_number;
 use signed_replies::page_numbers;
+use signed_replies::predecessor_number;
 use signed_replies::reply_number;
 use signed_replies::start_number;
 use signed_replies::successor_number;
@@ -11,6 +12,7 @@ ghost use denote.Ref.{now};
 ghost use mathlib.Core.Path.{_≡_};
 ghost use Rattle.patterns.specs.Entry.{acceptOf, firstOf, successorOf, codeOfMap, mapOfCode, heightOf, longestOf};
 ghost use Rattle.patterns.specs.Page.{pageOf};
+ghost use Rattle.patterns.specs.Predecessor.{predecessorOf};
 ghost use Rattle.patterns.specs.SignedReplies.{signedOf, Reported, PageReported, IsomorphismReported, CensusReported, componentStart, componentEnd};
 
 // n, or the refusal of a code.
@@ -35,6 +37,14 @@ pub extern "C" fn lethmuok_successor(code: &[u8], out: &mut [u8]) -> i64
     ensures { λ r. ⌜ Reported (successorOf (now (code .entry))) (now (out .entry)) r (now (out .exit)) ⌝ }
 {
     successor_number(engine::successor(code, out))
+}
+
+// Writes the code that stands before `code` in the list.
+#[no_mangle]
+pub extern "C" fn lethmuok_predecessor(code: &[u8], out: &mut [u8]) -> i64
+    ensures { λ r. ⌜ Reported (predecessorOf (now (code .entry))) (now (out .entry)) r (now (out .exit)) ⌝ }
+{
+    predecessor_number(engine::predecessor(code, out))
 }
 
 // Writes up to `wanted` codes that follow `code` in the list, one after another.

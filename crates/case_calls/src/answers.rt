@@ -1,5 +1,6 @@
 // What an entry answered: one kind and one number for the replies of all entries.
 use patterns::Isomorphism;
+use patterns::Predecessor;
 use patterns::Refusal;
 use patterns::Reply;
 use patterns::Successor;
@@ -11,6 +12,8 @@ pub const LAST: usize = 1;
 pub const NONE: usize = 2;
 
 pub const REFUSED: usize = 3;
+
+pub const FIRST_OF_LIST: usize = 4;
 
 // The kind, and the length or the number of the cause.
 pub struct Answer {
@@ -47,6 +50,17 @@ pub fn of_successor(reply: Successor) -> Answer {
             value: 0,
         },
         Successor::Refused(cause) => of_refusal(cause),
+    }
+}
+
+pub fn of_predecessor(reply: Predecessor) -> Answer {
+    match reply {
+        Predecessor::Length(k) => of_length(k),
+        Predecessor::First => Answer {
+            kind: FIRST_OF_LIST,
+            value: 0,
+        },
+        Predecessor::Refused(cause) => of_refusal(cause),
     }
 }
 

@@ -17,6 +17,9 @@ pub const MAP_OF_CODE: usize = 5;
 
 pub const ISOMORPHISM: usize = 6;
 
+// The number 7 is that of the census, which is no entry of this crate.
+pub const PREDECESSOR: usize = 8;
+
 // More room than any output takes.
 const WIDE: usize = 2000;
 
@@ -67,6 +70,9 @@ fn call_on_map(entry: usize, f: &[u8], g: &[u8], out: &mut [u8]) -> Answer {
 fn answer(entry: usize, count: usize, a: &[u8], b: &[u8], out: &mut [u8]) -> Answer {
     if entry <= SUCCESSOR {
         return call_on_code(entry, count, a, out);
+    }
+    if entry == PREDECESSOR {
+        return answers::of_predecessor(engine::predecessor(a, out));
     }
     call_on_map(entry, a, b, out)
 }
@@ -124,6 +130,10 @@ pub fn isomorphism(f: List, g: List) -> List {
 
 pub fn successor(code: List) -> Written {
     call(SUCCESSOR, 0, code, code, WIDE)
+}
+
+pub fn predecessor(code: List) -> Written {
+    call(PREDECESSOR, 0, code, code, WIDE)
 }
 
 // Whether the code is accepted, and has n points.

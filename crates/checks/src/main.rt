@@ -23,6 +23,7 @@ fn run_refusals() {
 fn run_answers() {
     run_file(b"rooms", b"rooms and refusals");
     run_file(b"steps", b"successors");
+    run_file(b"steps_back", b"predecessors");
     run_file(b"codes", b"codes of maps and maps of codes");
     run_file(b"census", b"census");
 }

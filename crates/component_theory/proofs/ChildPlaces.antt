@@ -1,9 +1,9 @@
 -- The children of a component, found place by place among its candidates: which places can hold a child, and that the first child and the next
--- sibling are the first child from a place on. Throughout, n is the number of pairs of neighbours: places below n are left merges, and from n on
+-- sibling are the first child from a place on, or backward the last one before a place. Throughout, n is the number of pairs of neighbours: places below n are left merges, and from n on
 -- come the right merges.
 use mathlib.Core.Path.{_≡_, refl, ap, ap₂, sym, _∙_}
 use mathlib.Core.Bool.{true, false, not, cond, _&&_}
-use mathlib.Core.List.{List, [], _∷_, _++_, map, map-append, append-assoc, head-eq-of-cons-eq, tail-eq-of-cons-eq}
+use mathlib.Core.List.{List, [], _∷_, _++_, map, map-append, append-assoc, reverse, reverse-append, head-eq-of-cons-eq, tail-eq-of-cons-eq}
 use mathlib.Core.Option.{none}
 use Prim.Native.Nat.{ℕ, zero, suc, _+_, _-_, _≤_, _<_}
 use native.Mathlib.Omega.{arith}
@@ -12,24 +12,26 @@ use borrow.Author.Tests.{eq-eqb, ne-eqb, leb-true, leb-false}
 use lib.ListN.{length, getD, replicate, length-append, length-map, length-replicate}
 use lib.Seq.{getD-append-seam}
 use Rattle.lists.specs.Order.{atMost}
-use Rattle.lists.specs.Select.{gather, range, place, first}
+use Rattle.lists.specs.Select.{gather, range, place, newAt, first}
 use Rattle.lists.proofs.Tests.{by-test, no-both, is-false}
 use Rattle.lists.proofs.Comparison.{eq-atMost, atMost-anti, atMost-self, atMost-turned}
+use Rattle.lists.proofs.Members.{gather-append}
+use Rattle.lists.proofs.Places.{range-last}
 use Rattle.lists.proofs.Follow.{otherwise, first-append}
 use Rattle.patterns.specs.Tree.{Tree, point, merge, compareTree, lastAtMost}
 use Rattle.patterns.specs.Component.{Component, compareComponent, validComponent}
 use Rattle.patterns.specs.Generation.{hasParent, parent, leftMerges, rightMerges, candidates, isChild}
 use Rattle.patterns.proofs.Trees.{compareTree-lawful}
-use Rattle.component_theory.specs.ChildPlaces.{childAt, childFrom}
+use Rattle.component_theory.specs.ChildPlaces.{childAt, childFrom, childBefore}
 use Rattle.component_theory.specs.Successor.{firstChild, nextSibling}
-use Rattle.lists.proofs.Passing.{once-keep, once-next}
+use Rattle.lists.proofs.Passing.{once-keep, once-next, once-previous}
 use Rattle.component_theory.proofs.Lemma8.{nonempty-append}
 use Rattle.component_theory.proofs.Children.{component-decides, mergesBy, merge-right, left-by, right-by, child-candidate, children-candidate}
 use Rattle.component_theory.specs.Path.{key}
 use Rattle.component_theory.proofs.Keys.{isLeast, length-merges, left-place, right-place, left-child, right-child, point-not-merge, and-right, left-candidate-place, right-candidate-place}
 
 -- the first child is the first from place 0 on
-pub firstChild-place : (c : Component) → firstChild c ≡ childFrom c 0
+pub firstChild-place : (c : Component) → firstChild true c ≡ childFrom c 0
 unfolding firstChild childFrom
 firstChild-place c =
     let e : length (candidates c) ≡ length (candidates c) - 0 = omega arith in
@@ -37,11 +39,23 @@ firstChild-place c =
     ∙ ap (λ n. first (gather (childAt c) (range 0 n))) e
 
 -- the next sibling is the first child of the parent from the place after the key on
-pub nextSibling-place : (d : Component) → validComponent d ≡ true → hasParent d ≡ true → nextSibling d ≡ childFrom (parent d) (suc (key d))
+pub nextSibling-place : (d : Component) → validComponent d ≡ true → hasParent d ≡ true → nextSibling true d ≡ childFrom (parent d) (suc (key d))
 unfolding nextSibling childFrom
 nextSibling-place d v h =
     let r = children-candidate (parent d) d (child-candidate d v h) in
     rw h (once-next component-decides (isChild (parent d)) [] (r .0) (r .1))
+
+-- backward, the first child is the last one before the end
+pub lastChild-place : (c : Component) → firstChild false c ≡ childBefore c (length (candidates c))
+unfolding firstChild childBefore
+lastChild-place c = ap (λ l. first (reverse l)) (once-keep component-decides (isChild c) [] (candidates c))
+
+-- and the next sibling is the last child of the parent before the key
+pub previousSibling-place : (d : Component) → validComponent d ≡ true → hasParent d ≡ true → nextSibling false d ≡ childBefore (parent d) (key d)
+unfolding nextSibling childBefore
+previousSibling-place d v h =
+    let r = children-candidate (parent d) d (child-candidate d v h) in
+    rw h (once-previous component-decides (isChild (parent d)) [] (r .0) (r .1))
 
 -- from the end on there is no child
 pub childFrom-end : (c : Component) (k : ℕ) → length (candidates c) ≤ k → childFrom c k ≡ none
@@ -69,6 +83,39 @@ childFrom-skip c k (suc j) h =
     let g = leb-false (length (candidates c)) k t in
     childFrom-step c k g ∙ ap (λ l. otherwise (first l) (childFrom c (suc k))) (h k (omega arith) (omega arith))
     ∙ childFrom-skip c (suc k) j (λ i a b. h i (omega arith) (omega arith)) ∙ ap (childFrom c) e)
+
+-- before place 0 there is no child
+pub childBefore-start : (c : Component) → childBefore c 0 ≡ none
+unfolding childBefore
+childBefore-start c = refl
+
+-- a place has at most one child
+childAt-alone : (c : Component) (k : ℕ) → reverse (childAt c k ++ []) ≡ childAt c k
+unfolding childAt newAt
+childAt-alone c k =
+    let d = getD (candidates c) k [] in
+    by-test (isChild c d && eqb (place compareComponent d (candidates c)) k) (λ t. rw t) (λ t. rw t)
+
+-- before the next place: the child at k, or else the last before k
+pub childBefore-step : (c : Component) (k : ℕ) → childBefore c (suc k) ≡ otherwise (first (childAt c k)) (childBefore c k)
+unfolding childBefore
+childBefore-step c k =
+    let e : 0 + k ≡ k = omega arith in
+    let G = gather (childAt c) (range 0 k) in
+    ap (λ l. first (reverse (gather (childAt c) l))) (range-last 0 k ∙ ap (λ i. range 0 k ++ (i ∷ [])) e)
+    ∙ ap (λ l. first (reverse l)) (gather-append (childAt c) (range 0 k) (k ∷ []))
+    ∙ ap first (reverse-append G (childAt c k ++ []))
+    ∙ ap (λ l. first (l ++ reverse G)) (childAt-alone c k)
+    ∙ first-append (childAt c k) (reverse G)
+
+-- places without a child are passed over
+pub childBefore-skip : (c : Component) (k j : ℕ) → ((i : ℕ) → k ≤ i → i < k + j → childAt c i ≡ []) → childBefore c (k + j) ≡ childBefore c k
+childBefore-skip c k zero h = let e : k + 0 ≡ k = omega arith in ap (childBefore c) e
+childBefore-skip c k (suc j) h =
+    let e : k + suc j ≡ suc (k + j) = omega arith in
+    ap (childBefore c) e ∙ childBefore-step c (k + j)
+    ∙ ap (λ l. otherwise (first l) (childBefore c (k + j))) (h (k + j) (omega arith) (omega arith))
+    ∙ childBefore-skip c k j (λ i a b. h i a (omega arith))
 
 -- as many candidates as twice the pairs
 pub length-candidates : (c : Component) (n : ℕ) → length c ≡ suc n → length (candidates c) ≡ n + n
@@ -231,12 +278,6 @@ module _ (c : Component) (v : validComponent c ≡ true) (n : ℕ) (l : length c
       let s = points-pair h i q k in
       childAt-right c v n l i point point (s .0) (e ∙ s .1) ∙ rw (atMost-self compareTree-lawful point)
 
-  -- of h leading points only the last and what follows it have a right merge to be tested
-  pub childFrom-rights : (h : ℕ) (q : Component) → c ≡ replicate h point ++ q → childFrom c n ≡ childFrom c (n + (h - 1))
-  childFrom-rights h q e =
-      childFrom-skip c n (h - 1)
-      (λ i a b. let z : n + (i - n) ≡ i = omega arith in ap (childAt c) (sym z) ∙ childAt-points h (i - n) q e (omega arith))
-
   module _ (h : ℕ) (x y : Tree) (s : Component) (e : c ≡ replicate h point ++ (merge x y ∷ s)) where
     -- no left merge behind the leading points and the tree after them
     pub childFrom-lefts : (k : ℕ) → h < k → k ≤ n → childFrom c k ≡ childFrom c n
@@ -255,3 +296,22 @@ module _ (c : Component) (v : validComponent c ≡ true) (n : ℕ) (l : length c
         ap (childAt c) (sym z)
         ∙ (childAt-late c (replicate h point) x y s n (i - n) e l (omega (arith, length-replicate h point)) (omega arith)) .1)
         ∙ childFrom-end c (k + (n + n - k)) (omega (arith, length-candidates c n l))
+
+    -- so the last child before a place behind them is the last one before the place after them, among the left merges
+    pub childBefore-lefts : (k : ℕ) → h < k → k ≤ n → childBefore c k ≡ childBefore c (h + 1)
+    childBefore-lefts k a b =
+        let z : h + 1 + (k - (h + 1)) ≡ k = omega arith in
+        ap (childBefore c) (sym z)
+        ∙ childBefore-skip c (h + 1) (k - (h + 1))
+        (λ i f g. (childAt-late c (replicate h point) x y s n i e l (omega (arith, length-replicate h point)) (omega arith)) .0)
+
+    -- and among the right merges
+    pub childBefore-rights : (k : ℕ) → h < k → k ≤ n → childBefore c (n + k) ≡ childBefore c (n + (h + 1))
+    childBefore-rights k a b =
+        let z : n + (h + 1) + (k - (h + 1)) ≡ n + k = omega arith in
+        ap (childBefore c) (sym z)
+        ∙ childBefore-skip c (n + (h + 1)) (k - (h + 1))
+        (λ i f g.
+        let z : n + (i - n) ≡ i = omega arith in
+        ap (childAt c) (sym z)
+        ∙ (childAt-late c (replicate h point) x y s n (i - n) e l (omega (arith, length-replicate h point)) (omega arith)) .1)

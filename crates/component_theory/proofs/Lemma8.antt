@@ -67,7 +67,7 @@ valid-least : (c : Component) → validComponent c ≡ true → Least compareTre
 unfolding compareComponent
 valid-least c v = record { no-less = (valid-parts c v) .2 }
 
-least-valid : (c : Component) → nonempty c ≡ true → each validTree c ≡ true → Least compareTree c → validComponent c ≡ true
+pub least-valid : (c : Component) → nonempty c ≡ true → each validTree c ≡ true → Least compareTree c → validComponent c ≡ true
 unfolding compareComponent
 least-valid c n v g = valid-from c n v (g .no-less)
 

@@ -11,3 +11,4 @@ pub mod Paths
 pub mod Pieces
 pub mod LocalStep
 pub mod Successor
+pub mod LastComponent

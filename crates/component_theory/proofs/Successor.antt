@@ -1,41 +1,46 @@
--- The local step of generation order is right: what follows a valid component in the generation list is its successor. And so is the same step over
--- reversed children with the other parity: it gives what precedes.
-use mathlib.Core.Path.{_≡_}
-use mathlib.Core.Bool.{true, false}
-use mathlib.Core.List.{List, [], _∷_, _++_, reverse}
-use mathlib.Core.Option.{none, some}
-use Rattle.lists.specs.Select.{next}
+-- The local step of generation order is right in both directions: what follows a valid component in the generation list is its successor, and what stands before it is
+-- its predecessor.
+use mathlib.Core.Path.{_≡_, refl, sym}
+use mathlib.Core.Bool.{Bool, true, false}
+use mathlib.Core.List.{List, reverse}
+use mathlib.Core.Option.{some}
+use Prim.Native.Nat.{ℕ}
 use Rattle.lists.proofs.Follow.{Within}
-use Rattle.patterns.specs.Component.{Component, points, compareComponent, validComponent}
-use Rattle.patterns.specs.Generation.{children, cycle, generation}
-use Rattle.component_theory.specs.LocalStep.{stepIn}
-use Rattle.component_theory.specs.Successor.{successor}
+use Rattle.patterns.specs.Component.{Component, points, validComponent}
+use Rattle.patterns.specs.Generation.{children, walk, cycle, generation}
+use Rattle.component_theory.specs.Successor.{kids, neighbour, successor, predecessor}
 use Rattle.component_theory.proofs.Traversal.{reverse-walk}
-use Rattle.component_theory.proofs.Generation.{children-arranged, reverse-arranged}
-use Rattle.component_theory.proofs.LocalStep.{stepIn-within, stepIn-is, stepIn-valid, stepIn-none}
+use Rattle.component_theory.proofs.Generation.{Arranged, children-arranged, reverse-arranged}
+use Rattle.component_theory.proofs.LocalStep.{stepIn-within, stepIn-valid}
 
--- the successor stands next to a valid component in the generation list
+pub kids-arranged : (forward : Bool) → Arranged (kids forward)
+unfolding kids
+kids-arranged true = children-arranged
+kids-arranged false = reverse-arranged children-arranged
+
+-- the generation list, read in a direction
+abbrev generationIn : Bool → ℕ → List Component
+generationIn true n = generation n
+generationIn false n = reverse (generation n)
+
+-- it is the walk in that direction
+pub walk-in : (forward : Bool) (n : ℕ) → walk (kids forward) n forward (cycle n) ≡ generationIn forward n
+unfolding kids generation
+walk-in true n = refl
+walk-in false n = sym (reverse-walk children n true (cycle n))
+
+-- what follows a valid component in a direction is its neighbour
+neighbour-within : (forward : Bool) (c : Component) → validComponent c ≡ true → Within c (generationIn forward (points c)) (neighbour forward c)
+unfolding neighbour
+neighbour-within forward c v = rw (← walk-in forward (points c)) (stepIn-within (kids-arranged forward) forward c v)
+
+-- a neighbour is valid and has as many points
+pub neighbour-valid : (forward : Bool) (c d : Component) → validComponent c ≡ true → neighbour forward c ≡ some d → (validComponent d ≡ true) × (points d ≡ points c)
+unfolding neighbour
+neighbour-valid forward = stepIn-valid (kids-arranged forward) forward
+
 pub successor-within : (c : Component) → validComponent c ≡ true → Within c (generation (points c)) (successor c)
-unfolding generation successor
-successor-within = stepIn-within children-arranged true
+successor-within = neighbour-within true
 
--- what follows a valid component in the generation list is its successor
-pub successor-is : (c : Component) → validComponent c ≡ true → next compareComponent c (generation (points c)) ≡ successor c
-unfolding generation successor
-successor-is = stepIn-is children-arranged true
-
--- the successor is valid and has as many points
-pub successor-valid : (c d : Component) → validComponent c ≡ true → successor c ≡ some d → (validComponent d ≡ true) × (points d ≡ points c)
-unfolding successor
-successor-valid = stepIn-valid children-arranged true
-
--- where there is no successor, the list ends
-pub successor-none : (c : Component) → validComponent c ≡ true → successor c ≡ none → (a : List Component) × (generation (points c) ≡ a ++ (c ∷ []))
-unfolding generation successor
-successor-none = stepIn-none children-arranged true
-
--- in the generation list reversed, what follows is the step over reversed children where odd depths come first
-pub step-back-within : (c : Component) → validComponent c ≡ true → Within c (reverse (generation (points c))) (stepIn (λ d. reverse (children d)) false c)
-unfolding generation
-step-back-within c v =
-    rw (reverse-walk children (points c) true (cycle (points c))) (stepIn-within (reverse-arranged children-arranged) false c v)
+pub predecessor-within : (c : Component) → validComponent c ≡ true → Within c (reverse (generation (points c))) (predecessor c)
+predecessor-within = neighbour-within false

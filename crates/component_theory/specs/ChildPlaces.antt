@@ -1,5 +1,5 @@
 -- The children of a component by their places among its candidates.
-use mathlib.Core.List.{List, []}
+use mathlib.Core.List.{List, [], reverse}
 use mathlib.Core.Option.{Option}
 use Prim.Native.Nat.{ℕ, _-_}
 use lib.ListN.{length}
@@ -16,3 +16,8 @@ childAt c k = newAt compareComponent (isChild c) [] (candidates c) k
 unfoldable pub childFrom : Component → ℕ → Option Component
 unfolding childAt
 childFrom c k = first (gather (childAt c) (range k (length (candidates c) - k)))
+
+-- the last child of c at a place before k
+unfoldable pub childBefore : Component → ℕ → Option Component
+unfolding childAt
+childBefore c k = first (reverse (gather (childAt c) (range 0 k)))

@@ -2,5 +2,6 @@
 pub mod Theorems
 pub mod CensusTheorems
 pub mod PageTheorems
+pub mod PredecessorTheorems
 pub mod Demand3
 pub mod Promises

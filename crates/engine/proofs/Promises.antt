@@ -12,9 +12,10 @@ use prog.Wp.{Heap}
 use ghost.Atoms.{Atoms}
 use contract.Monad.{Fun, fact}
 use Rattle.patterns.specs.Page.{pageOf, PageReplied}
+use Rattle.patterns.specs.Predecessor.{predecessorOf}
 use Rattle.patterns.specs.Entry.{Replied, acceptOf, firstOf, successorOf, codeOfMap, mapOfCode, IsomorphismReplied, CensusReplied}
 use Rattle.patterns.specs.Replies.{answerOf}
-use Rattle.patterns.specs.Replies.{successorAnswer, pageAnswer, isomorphismAnswer, censusAnswer}
+use Rattle.patterns.specs.Replies.{successorAnswer, predecessorAnswer, pageAnswer, isomorphismAnswer, censusAnswer}
 use Rattle.patterns.specs.Replies.{rowOf}
 use Rattle.patterns.specs.Entry.{RowsReplied, ColumnsReplied, heightOf, longestOf}
 use Rattle.code_entries.proofs.accept.Reads as accept
@@ -23,6 +24,8 @@ use Rattle.code_entries.proofs.first.Reads as first
 use Rattle.code_entries.proofs.first.Kinds as first-kinds
 use Rattle.successor_entry.proofs.successor.Reads as successor
 use Rattle.successor_entry.proofs.successor.Kinds as successor-kinds
+use Rattle.predecessor_entry.proofs.predecessor.Reads as predecessor
+use Rattle.predecessor_entry.proofs.predecessor.Kinds as predecessor-kinds
 use Rattle.page_entry.proofs.page.Reads as page
 use Rattle.page_entry.proofs.page.Kinds as page-kinds
 use Rattle.coding_entry.proofs.code_of_map.Reads as code-of-map
@@ -54,6 +57,11 @@ first-promise κs a r s p = p
 pub successor-promise : (κs : Lfts 2) (a : Dens κs successor-kinds.ps) (r : _) (s : _) → successor.Post κs a r s
     → Replied (successorOf (now (a .0))) (now (a .1 .0)) (successorAnswer r) (now (s .1 .0))
 successor-promise κs a r s p = p
+
+-- `predecessor`
+pub predecessor-promise : (κs : Lfts 2) (a : Dens κs predecessor-kinds.ps) (r : _) (s : _) → predecessor.Post κs a r s
+    → Replied (predecessorOf (now (a .0))) (now (a .1 .0)) (predecessorAnswer r) (now (s .1 .0))
+predecessor-promise κs a r s p = p
 
 -- `page`
 pub page-promise : (κs : Lfts 2) (a : Dens κs page-kinds.ps) (r : _) (s : _) → page.Post κs a r s

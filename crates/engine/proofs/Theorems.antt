@@ -18,7 +18,7 @@ use Rattle.patterns.specs.Table.{isTable, systemOfTable}
 use Rattle.patterns.specs.Isomorphism.{Isomorphism}
 use Rattle.patterns.specs.Reading.{Result, done, fault, accepted}
 use Rattle.patterns.specs.Replies.{Answer, length-is, lacking, refused}
-use Rattle.patterns.specs.Entry.{Outcome, gives, ends, lacks, fails, outcome, answered, Replied, checkedTable, codeOfMap, mapOfCode, IsomorphismFound, IsomorphismReplied, first-refused, second-refused, found, lengths-differ, not-found}
+use Rattle.patterns.specs.Entry.{Outcome, gives, ends, begins, lacks, fails, outcome, answered, Replied, checkedTable, codeOfMap, mapOfCode, IsomorphismFound, IsomorphismReplied, first-refused, second-refused, found, lengths-differ, not-found}
 use Rattle.form_theory.proofs.Bounds.{allBelow}
 use Rattle.form_theory.proofs.WrittenBack.{accepted-is, written-equal}
 use Rattle.map_theory.proofs.MapOf.{length-mapOf, mapOf-table}
@@ -37,6 +37,7 @@ result-written (gives l) {before} {after} {n} p =
     (l, refl, k, ap (take n) (p .output ∙ rw e) ∙ take-at l (drop (length l) before) n (sym k)))
     (λ e. let q : length-is n ≡ refused 8 = p .reply ∙ rw e in clash cc)
 result-written ends p = let q = p .reply in clash cc
+result-written begins p = let q = p .reply in clash cc
 result-written lacks p = let q = p .reply in clash cc
 result-written (fails c) p = let q = p .reply in clash cc
 
@@ -62,15 +63,18 @@ map-has-code b {before} {after} {n} h p = of (accepted b) refl p
         ∙ ap gives (sym (c .0))
     of (fault c) e q = let z = result-written (fails c) q in (let y = z .1 in clash cc)
 
--- given room, the code of a map is what "code of a map" writes
+-- given room for it, a result is what is written
+pub result-fills : {A : Type 0} (l : List A) {before after : List A} {a : Answer} → Replied (gives l) before a after → length l ≤ length before
+    → (a ≡ length-is (length l)) × (take (length l) after ≡ l)
+result-fills l {before} p room =
+    let e = le-leb (length l) (length before) room in
+    (p .reply ∙ rw e, ap (take (length l)) (p .output ∙ rw e) ∙ take-at l (drop (length l) before) (length l) refl)
+
+-- so the code of a map is what "code of a map" writes
 pub code-fills : (f : List ℕ) {before after : List ℕ} {a : Answer} → length f ≤ 200 → isTable f ≡ true → Replied (codeOfMap f) before a after
     → length (written (systemOfTable f)) ≤ length before
     → (a ≡ length-is (length (written (systemOfTable f)))) × (take (length (written (systemOfTable f))) after ≡ written (systemOfTable f))
-code-fills f {before} {after} {a} h t p room =
-    let b = written (systemOfTable f) in
-    let q = rw (code-gives f h t) at p in
-    let e = le-leb (length b) (length before) room in
-    (q .reply ∙ rw e, ap (take (length b)) (q .output ∙ rw e) ∙ take-at b (drop (length b) before) (length b) refl)
+code-fills f h t p room = result-fills (written (systemOfTable f)) (rw (code-gives f h t) at p) room
 
 -- an isomorphism or none: what was found where a length is the reply
 found-gives : (f g l : List ℕ) → IsomorphismFound f g (gives l) → Isomorphism (length f) f g l

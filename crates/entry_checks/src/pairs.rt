@@ -1,11 +1,15 @@
 // Runs on pairs of maps of 200 points, the second a shuffled copy of the first: both have one code, the renaming that is found is one, the map of the code is
-// isomorphic to the first, and the successor of the code is accepted.
+// isomorphic to the first, the successor of the code is accepted, and 1,000 steps forward and as many back lead to the code again.
+use case_calls::answers;
 use case_calls::calls;
 use case_text::lists;
 use case_text::lists::List;
 use case_text::numbers;
 use case_text::scores;
 use case_text::scores::Score;
+
+// The steps of a walk through the list.
+const STEPS: usize = 1000;
 
 // Up to where the pairs were read, how many there are, and of how many each comparison holds.
 struct Runs {
@@ -15,6 +19,13 @@ struct Runs {
     isomorphisms: usize,
     maps: usize,
     successors: usize,
+    returns: usize,
+}
+
+// The code that a walk has come to, and how many steps were made.
+struct Walk {
+    code: List,
+    steps: usize,
 }
 
 // Whether both tables have the same code, of more than no bytes.
@@ -95,6 +106,44 @@ fn is_followed(f: List) -> bool {
     calls::is_accepted(next, f.len)
 }
 
+// The walk from the code on, up to "last" where that is said before all steps are made. A refusal leads to a code of no bytes, and not back from there.
+fn go_forward(code: List) -> Walk {
+    let mut here = code;
+    let mut steps = 0;
+    while steps < STEPS {
+        let step = calls::successor(here);
+        if step.kind == answers::LAST {
+            return Walk { code: here, steps };
+        }
+        here = calls::result(step);
+        steps += 1;
+    }
+    Walk { code: here, steps }
+}
+
+// The code so many steps back; of no bytes where "first" is said before.
+fn go_back(code: List, steps: usize) -> List {
+    let mut here = code;
+    let mut left = steps;
+    while 0 < left {
+        here = calls::result(calls::predecessor(here));
+        left -= 1;
+    }
+    here
+}
+
+// Whether a walk from the code of f on, which has more than no bytes, and as many steps back lead to the same bytes.
+fn is_returned(f: List) -> bool {
+    let code = calls::code_of_map(f);
+    if code.len == 0 {
+        return false;
+    }
+    let walk = go_forward(code);
+    let there = walk.code;
+    let steps = walk.steps;
+    lists::same(code, go_back(there, steps))
+}
+
 // The runs with one pair more.
 fn run_pair(runs: Runs, f: List, g: List) -> Runs {
     Runs {
@@ -104,6 +153,7 @@ fn run_pair(runs: Runs, f: List, g: List) -> Runs {
         isomorphisms: numbers::counted(runs.isomorphisms, is_isomorphic(f, g)),
         maps: numbers::counted(runs.maps, is_coded_again(f)),
         successors: numbers::counted(runs.successors, is_followed(f)),
+        returns: numbers::counted(runs.returns, is_returned(f)),
     }
 }
 
@@ -122,6 +172,7 @@ fn none() -> Runs {
         isomorphisms: 0,
         maps: 0,
         successors: 0,
+        returns: 0,
     }
 }
 
@@ -150,6 +201,7 @@ fn report_runs(found: Runs) {
     report(b"200 points, isomorphisms", found.isomorphisms, total);
     report(b"200 points, maps of codes", found.maps, total);
     report(b"200 points, successors accepted", found.successors, total);
+    report(b"200 points, 1,000 steps and back", found.returns, total);
 }
 
 // The pairs of the file of this name.

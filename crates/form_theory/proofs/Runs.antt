@@ -14,9 +14,9 @@ use Rattle.lists.proofs.Tests.{_∈_, by-test, either, clash}
 use Rattle.lists.proofs.Members.{in-head, in-tail, in-cons-cases, not-in-nil}
 use Rattle.patterns.specs.System.{System}
 use Rattle.patterns.specs.Written.{written}
-use Rattle.patterns.specs.Replies.{Answer, length-is, last, lacking, refused}
+use Rattle.patterns.specs.Replies.{Answer, length-is, last, first-of-list, lacking, refused}
 use Rattle.patterns.specs.Entry.{Outcome, gives, ends, answered, filled, Replied}
-use Rattle.patterns.specs.Calls.{State, wrote, Call, entry, said-last, said-none, refusal, CallsBy, no-buffer, writes, says-last, says-none, refuses, entries, ended, roomy}
+use Rattle.patterns.specs.Calls.{State, wrote, Call, entry, said-last, said-first, said-none, refusal, CallsBy, no-buffer, writes, says-last, says-first, says-none, refuses, entries, ended, roomy}
 
 -- one call with the first buffer, and the calls with the others
 next-call : {step : State → Outcome ℕ} {s : State} {b : List ℕ} {bs : List (List ℕ)} → ((t : State) → (calls : List Call) × CallsBy step t bs calls)
@@ -26,6 +26,7 @@ next-call {step} {s} {b} more (length-is k) e =
     let m = more (wrote (take k after)) in
     (entry (take k after) ∷ m .0, writes k after (record { reply = e; output = refl }) (m .1))
 next-call {step} {s} {b} more last e = (said-last ∷ [], says-last (filled (step s) b) (record { reply = e; output = refl }))
+next-call {step} {s} {b} more first-of-list e = (said-first ∷ [], says-first (filled (step s) b) (record { reply = e; output = refl }))
 next-call {step} {s} {b} more lacking e = (said-none ∷ [], says-none (filled (step s) b) (record { reply = e; output = refl }))
 next-call {step} {s} {b} more (refused c) e =
     let m = more s in
@@ -78,6 +79,12 @@ module _ {before after : List ℕ} (b : List ℕ) where
       (λ t. let e : last ≡ length-is (length b) = rw t at (p .reply) in clash cc)
       (λ t. let e : last ≡ refused 8 = rw t at (p .reply) in clash cc)
 
+  found-first : Replied (gives b) before first-of-list after → ⊥
+  found-first p =
+      by-test (leb (length b) (length before))
+      (λ t. let e : first-of-list ≡ length-is (length b) = rw t at (p .reply) in clash cc)
+      (λ t. let e : first-of-list ≡ refused 8 = rw t at (p .reply) in clash cc)
+
   found-none : Replied (gives b) before lacking after → ⊥
   found-none p =
       by-test (leb (length b) (length before))
@@ -102,6 +109,8 @@ calls-run {step} (writes {before = b} {rest = bs} k after p more) (at-code {S = 
     rw (run-writes S r b bs (q .0)) (ap₂ (λ e c. entry e ∷ c) (q .1) i)
 calls-run (says-last after p) (at-end e) = refl
 calls-run (says-last after p) (at-code {S = S} e f) = absurd (found-last (written S) (rw e at p))
+calls-run (says-first after p) (at-end e) = let q = rw e at (p .reply) in clash cc
+calls-run (says-first after p) (at-code {S = S} e f) = absurd (found-first (written S) (rw e at p))
 calls-run (says-none after p) (at-end e) = let q = rw e at (p .reply) in clash cc
 calls-run (says-none after p) (at-code {S = S} e f) = absurd (found-none (written S) (rw e at p))
 calls-run (refuses c after p more) (at-end e) = let q = rw e at (p .reply) in clash cc

@@ -10,27 +10,61 @@ use lib.ListN.{length}
 use Rattle.lists.proofs.Members.{lawful-decides}
 use Rattle.lists.proofs.Places.{place-index}
 use Rattle.patterns.specs.Component.{Component, flat, validComponent}
-use Rattle.patterns.specs.Generation.{hasParent, parent}
+use Rattle.patterns.specs.Generation.{hasParent, parent, candidates}
 use Rattle.patterns.proofs.Trees.{compareComponent-lawful, length-flat, flat-injective}
 use Rattle.components.specs.Climbs.{Climbed}
 use Rattle.component_theory.specs.Successor.{firstChild, nextSibling, opening}
 use Rattle.components.specs.declared.Climb.{Climb}
 use Rattle.components.specs.declared.Climb.the-variants.{Root as NoParent, Key}
-use Rattle.component_theory.proofs.Lemma8.{parent-valid, parent-points}
+use Rattle.component_theory.proofs.Lemma8.{parent-valid}
 use Rattle.component_theory.proofs.Children.{in-candidates}
 use Rattle.component_theory.specs.Path.{key}
-use Rattle.component_theory.specs.ChildPlaces.{childFrom}
-use Rattle.component_theory.proofs.ChildPlaces.{nextSibling-place, length-candidates}
+use Rattle.component_theory.specs.ChildPlaces.{childFrom, childBefore}
+use Rattle.component_theory.proofs.ChildPlaces.{firstChild-place, lastChild-place, nextSibling-place, previousSibling-place, length-candidates}
 use Rattle.component_theory.proofs.Generation.{length-points, valid-positive}
 use Rattle.children.specs.Candidates.{Gave}
-use Rattle.generation.specs.HeldNodes.{Node}
-use Rattle.generation.proofs.Scanning.{gave-path, gave-nothing}
+use Rattle.scanning.specs.HeldNodes.{Node, PlaceIn}
+use Rattle.scanning.proofs.Scanning.{gave-path, gave-nothing}
+use Rattle.generation.specs.Siblings.{ChildKey, childBeside}
 
 node-trees : {s : List ℕ} (p : Node s) (c : Component) → s ≡ flat c → p .trees ≡ c
 node-trees p c e = flat-injective (p .trees) c (sym (p .is) ∙ e)
 
 node-valid : {s : List ℕ} (p : Node s) (c : Component) → s ≡ flat c → validComponent c ≡ true
 node-valid p c e = subst (λ d. validComponent d ≡ true) (node-trees p c e) (p .valid)
+
+-- The end of the candidates: twice the pairs, of which there is one less than trees.
+module _ {s : List ℕ} (p : Node s) (m : ℕ) (counted : (c : Component) → s ≡ flat c → m ≡ length c) where
+  pub candidates-end : (c : Component) → s ≡ flat c → length (candidates c) ≡ m - 1 + (m - 1)
+  candidates-end c e = length-candidates c (m - 1) (omega (arith, counted c e, valid-positive c (node-valid p c e)))
+
+  pub all-places : PlaceIn s (m - 1 + (m - 1))
+  all-places c e = omega (arith, candidates-end c e)
+
+  pub few-places : m - 1 + (m - 1) < 400
+  few-places =
+      let c = p .trees in
+      omega (arith, counted c (p .is), length-points c, length-flat c, ap length (p .is), p .small, valid-positive c (p .valid))
+
+  pub child-backward : {forward : Bool} → forward ≡ false → (c : Component) → s ≡ flat c → childBefore c (m - 1 + (m - 1)) ≡ firstChild forward c
+  child-backward b c e = ap (childBefore c) (sym (candidates-end c e)) ∙ sym (lastChild-place c) ∙ ap (λ f. firstChild f c) (sym b)
+
+pub child-forward : {forward : Bool} → forward ≡ true → (c : Component) → childFrom c 0 ≡ firstChild forward c
+child-forward b c = sym (firstChild-place c) ∙ ap (λ f. firstChild f c) (sym b)
+
+-- The child after the one with a key.
+pub beside-forward : {forward : Bool} → forward ≡ true → (c : Component) (k : ℕ) → childFrom c (k + 1) ≡ childBeside forward c k
+unfolding childBeside
+beside-forward b c k = ap (λ f. childBeside f c k) (sym b)
+
+pub beside-backward : {forward : Bool} → forward ≡ false → (c : Component) (k : ℕ) → childBefore c k ≡ childBeside forward c k
+unfolding childBeside
+beside-backward b c k = ap (λ f. childBeside f c k) (sym b)
+
+beside-key : (forward : Bool) (c : Component) → validComponent c ≡ true → hasParent c ≡ true → childBeside forward (parent c) (key c) ≡ nextSibling forward c
+unfolding childBeside
+beside-key true c v h = ap (childFrom (parent c)) (add-one (key c)) ∙ sym (nextSibling-place c v h)
+beside-key false c v h = sym (previousSibling-place c v h)
 
 -- The step up: s holds a valid component, x its parent, and k is its key.
 pub record Raised (s x : List ℕ) (k : ℕ) : Type 0 where
@@ -52,38 +86,38 @@ module _ {s x : List ℕ} {k : ℕ} (v : Raised s x k) where
       let u = v .up (p .trees) (p .is) in
       record { trees = parent (p .trees); is = u .1; valid = parent-valid (p .trees) (p .valid) (u .0); small = omega (arith, p .small, v .same) }
 
-  pub up-key : k < 400
-  up-key =
+  pub up-key : ChildKey x k
+  up-key d e =
       let c = p .trees in
       let u = v .up c (p .is) in
-      let n = length (parent c) - 1 in
-      let l : length (parent c) ≡ suc n = omega (arith, valid-positive (parent c) (parent-valid c (p .valid) (u .0))) in
-      omega (
-        arith,
-        u .2,
-        (place-index (lawful-decides compareComponent-lawful) c (in-candidates c (u .0))) .0,
-        length-candidates (parent c) n l,
-        length-points (parent c),
-        parent-points c,
-        length-flat c,
-        ap length (p .is),
-        p .small,
-      )
+      let q : d ≡ parent c = flat-injective d (parent c) (sym e ∙ u .1) in
+      omega (arith, ap (λ z. length (candidates z)) q, u .2, (place-index (lawful-decides compareComponent-lawful) c (in-candidates c (u .0))) .0)
 
-  after-key : (c : Component) → s ≡ flat c → childFrom (parent c) (k + 1) ≡ nextSibling c
-  after-key c e =
+  after-key : (forward : Bool) (c : Component) → s ≡ flat c → childBeside forward (parent c) k ≡ nextSibling forward c
+  after-key forward c e =
       let u = v .up c e in
-      ap (childFrom (parent c)) (add-one k ∙ ap suc (u .2)) ∙ sym (nextSibling-place c (node-valid p c e) (u .0))
+      ap (childBeside forward (parent c)) (u .2) ∙ beside-key forward c (node-valid p c e) (u .0)
 
-  module _ (b : Bool) (y : List ℕ) (scanned : (c : Component) → x ≡ flat c → Gave (childFrom c (k + 1)) b y) (c : Component) (e : s ≡ flat c) where
-    sibling : (a : Bool) → b ≡ a → Gave (nextSibling c) a y
-    sibling a f = gave-path (after-key c e) a y (subst (λ q. Gave (childFrom (parent c) (k + 1)) q y) f (scanned (parent c) (v .up c e .1)))
+  module _ (forward b : Bool) (y : List ℕ) (found : (c : Component) → x ≡ flat c → Gave (childBeside forward c k) b y) (c : Component) (e : s ≡ flat c) where
+    sibling : (a : Bool) → b ≡ a → Gave (nextSibling forward c) a y
+    sibling a f = gave-path (after-key forward c e) a y (subst (λ q. Gave (childBeside forward (parent c) k) q y) f (found (parent c) (v .up c e .1)))
 
-    pub beside-next : b ≡ true → (hasParent c ≡ true) × (x ≡ flat (parent c)) × Gave (nextSibling c) true y
+    pub beside-next : b ≡ true → (hasParent c ≡ true) × (x ≡ flat (parent c)) × Gave (nextSibling forward c) true y
     beside-next f = let u = v .up c e in (u .0, u .1, sibling true f)
 
-    pub beside-last : b ≡ false → (hasParent c ≡ true) × (x ≡ flat (parent c)) × (nextSibling c ≡ none)
-    beside-last f = let u = v .up c e in (u .0, u .1, gave-nothing (nextSibling c) y (sibling false f))
+    pub beside-last : b ≡ false → (hasParent c ≡ true) × (x ≡ flat (parent c)) × (nextSibling forward c ≡ none)
+    beside-last f = let u = v .up c e in (u .0, u .1, gave-nothing (nextSibling forward c) y (sibling false f))
+
+-- a key and a place more are few
+pub key-small : {s : List ℕ} (p : Node s) {k : ℕ} → ChildKey s k → k < 400
+key-small {s} p {k} h =
+    let c = p .trees in
+    let n = length c - 1 in
+    let l : length c ≡ suc n = omega (arith, valid-positive c (p .valid)) in
+    omega (arith, h c (p .is), length-candidates c n l, length-points c, length-flat c, ap length (p .is), p .small)
+
+pub key-within : {s : List ℕ} {k : ℕ} → ChildKey s k → PlaceIn s k
+key-within h c e = omega (arith, h c e)
 
 pub climbed-root : (c : Component) (r : Climb) (x : List ℕ) → Climbed c r x → r ≡ NoParent → hasParent c ≡ false
 climbed-root c r x g e = subst (λ k. Climbed c k x) e g
@@ -92,13 +126,13 @@ getD-gave : (o : Option Component) (d : Component) (x : List ℕ) → Gave o tru
 getD-gave none d x g = absurd (true≢false g)
 getD-gave (some e) d x g = g .1
 
-module _ (c : Component) (r : Bool) (x : List ℕ) (g : Gave (firstChild c) r x) where
+module _ (forward : Bool) (c : Component) (r : Bool) (x : List ℕ) (g : Gave (firstChild forward c) r x) where
   -- the first child opens
-  pub opening-child : r ≡ true → x ≡ flat (opening c)
+  pub opening-child : r ≡ true → x ≡ flat (opening forward c)
   unfolding opening
-  opening-child e = getD-gave (firstChild c) c x (subst (λ b. Gave (firstChild c) b x) e g)
+  opening-child e = getD-gave (firstChild forward c) c x (subst (λ b. Gave (firstChild forward c) b x) e g)
 
   -- without a child, the component itself
-  pub opening-self : r ≡ false → opening c ≡ c
+  pub opening-self : r ≡ false → opening forward c ≡ c
   unfolding opening
-  opening-self e = ap (λ o. Option·getD o c) (gave-nothing (firstChild c) x (subst (λ b. Gave (firstChild c) b x) e g))
+  opening-self e = ap (λ o. Option·getD o c) (gave-nothing (firstChild forward c) x (subst (λ b. Gave (firstChild forward c) b x) e g))

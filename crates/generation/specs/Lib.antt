@@ -1,3 +1,2 @@
--- What the functions of this crate ask and answer.
-pub mod HeldNodes
+-- What the functions of this crate answer.
 pub mod Siblings

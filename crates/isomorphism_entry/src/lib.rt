@@ -1,8 +1,7 @@
 // The public entry that gives an isomorphism between two maps.
 use coding::LabelledSystem;
 use coding::coded;
-use lists::Order;
-use lists::compare;
+use lists::equal;
 use matching::put_sent;
 use patterns::Isomorphism;
 use patterns::Reply;
@@ -17,17 +16,6 @@ ghost use Rattle.patterns.specs.Entry.{IsomorphismReplied};
 ghost use Rattle.patterns.specs.Replies.{isomorphismAnswer};
 ghost use Rattle.tables.specs.Tables.{Table};
 ghost use Rattle.isomorphism_entry.specs.SameLength.{SameLength};
-
-// Both slices hold the same bytes.
-fn equal(s: &[u8], t: &[u8]) -> bool
-    ensures { λ r. ⌜ r ≡ same (lex compareNumbers) (now (s .entry)) (now (t .entry)) ⌝ }
-{
-    match compare(s, t) {
-        Order::Less => false,
-        Order::Equal => true,
-        Order::Greater => false,
-    }
-}
 
 // Two systems of `n` points are the same: their sizes are, and their trees.
 fn same_system(a: LabelledSystem, b: LabelledSystem, n: usize) -> bool

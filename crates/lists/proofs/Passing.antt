@@ -1,8 +1,9 @@
 -- The entries that pass, each once, by their places: an entry is listed at place k exactly if it passes and first stands at k.
 use mathlib.Core.Path.{_≡_, refl, ap, ap₂, sym, _∙_}
 use mathlib.Core.Bool.{Bool, true, not, cond, _&&_}
-use mathlib.Core.List.{List, [], _∷_, _++_, append-assoc}
-use Prim.Native.Nat.{ℕ, suc, _+_, _-_, _<_, Ordering}
+use mathlib.Core.Logic.{_⊎_, inl, inr}
+use mathlib.Core.List.{List, [], _∷_, _++_, append-assoc, reverse}
+use Prim.Native.Nat.{ℕ, suc, _+_, _-_, _≤_, _<_, Ordering}
 use native.Mathlib.Omega.{arith}
 use lib.Dec.{eqb}
 use borrow.Author.Tests.{eq-eqb, ne-eqb, eqb-true}
@@ -10,10 +11,11 @@ use lib.ListN.{length, getD, length-append}
 use lib.Seq.{getD-append-seam}
 use Rattle.lists.specs.Order.{same}
 use Rattle.lists.specs.Select.{keep, gather, range, some-of, place, newAt, once, first, next}
-use Rattle.lists.proofs.Tests.{_∈_, by-test, no-both, and-true, is-false, some-append, some-member, some-true}
+use Rattle.lists.proofs.Tests.{_∈_, by-test, either, no-both, and-true, is-false, some-append, some-member, some-true}
 use Rattle.lists.proofs.Members.{Decides, in-head, in-tail, in-moved, keep-all, of-keep, of-once, of-gather, of-range, gather-append, in-single, not-in-nil}
 use Rattle.lists.proofs.Places.{first-split, place-split, place-index, next-split, range-append}
 use Rattle.lists.proofs.Gathering.{keep-same}
+use Rattle.lists.proofs.Reversed.{of-reverse, reverse-cut}
 
 module _ {A : Type 0} where
   -- two tests one after the other are one test
@@ -116,25 +118,42 @@ module _ {A : Type 0} {c : A → A → Ordering} (w : Decides c) (p : A → Bool
       let q = (place-index w d m) .1 in
       rw (q, e, eq-eqb (place c x l) (place c x l) refl)
 
-  -- what follows x: the first that is new at a later place
-  pub once-next : {x : A} {l : List A} → x ∈ l → p x ≡ true
-      → next c x (once c (keep p l)) ≡ first (gather (newAt c p d l) (range (suc (place c x l)) (length l - suc (place c x l))))
-  once-next {x} {l} m e =
-      let k = place c x l in
-      let h = (place-index w d m) .0 in
-      let N : length l ≡ k + suc (length l - suc k) = omega arith in
-      let Z : 0 + k ≡ k = omega arith in
-      let G = gather (newAt c p d l) (range (suc k) (length l - suc k)) in
-      let cut : once c (keep p l) ≡ gather (newAt c p d l) (range 0 k) ++ (x ∷ G) =
-      once-keep l ∙ ap (λ n. gather (newAt c p d l) (range 0 n)) N
-      ∙ ap (gather (newAt c p d l)) (range-append 0 k (suc (length l - suc k)))
-      ∙ gather-append (newAt c p d l) (range 0 k) (range (0 + k) (suc (length l - suc k)))
-      ∙ ap (λ n. gather (newAt c p d l) (range 0 k) ++ gather (newAt c p d l) (range n (suc (length l - suc k)))) Z
-      ∙ ap (λ b. gather (newAt c p d l) (range 0 k) ++ (b ++ G)) (newAt-place m e) in
-      ap (next c x) cut
-      ∙ next-split w (gather (newAt c p d l) (range 0 k)) x G
-      (λ i.
-      let r = of-gather (newAt c p d l) (range 0 k) i in
-      let b = of-range 0 k (r .1) in
-      let q = (of-newAt l (r .0) (r .2)) .0 in
-      omega (arith, b .1))
+  -- Around x: what is new at earlier places, x, and what is new at later ones.
+  module _ {x : A} {l : List A} (m : x ∈ l) (e : p x ≡ true) where
+    abbrev earlier : List A
+    earlier = gather (newAt c p d l) (range 0 (place c x l))
+
+    abbrev later : List A
+    later = gather (newAt c p d l) (range (suc (place c x l)) (length l - suc (place c x l)))
+
+    once-cut : once c (keep p l) ≡ earlier ++ (x ∷ later)
+    once-cut =
+        let k = place c x l in
+        let h = (place-index w d m) .0 in
+        let N : length l ≡ k + suc (length l - suc k) = omega arith in
+        let Z : 0 + k ≡ k = omega arith in
+        once-keep l ∙ ap (λ n. gather (newAt c p d l) (range 0 n)) N
+        ∙ ap (gather (newAt c p d l)) (range-append 0 k (suc (length l - suc k)))
+        ∙ gather-append (newAt c p d l) (range 0 k) (range (0 + k) (suc (length l - suc k)))
+        ∙ ap (λ n. earlier ++ gather (newAt c p d l) (range n (suc (length l - suc k)))) Z
+        ∙ ap (λ b. earlier ++ (b ++ later)) (newAt-place m e)
+
+    -- x is new at its place only
+    not-in-range : (a k : ℕ) → (a + k ≤ place c x l) ⊎ (place c x l < a) → x ∈ gather (newAt c p d l) (range a k) → ⊥
+    not-in-range a k o i =
+        let r = of-gather (newAt c p d l) (range a k) i in
+        let b = of-range a k (r .1) in
+        let q = (of-newAt l (r .0) (r .2)) .0 in
+        either o (λ f. omega (arith, b .1)) (λ f. omega (arith, b .0))
+
+    -- what follows x: the first that is new at a later place
+    pub once-next : next c x (once c (keep p l)) ≡ first later
+    once-next = ap (next c x) once-cut ∙ next-split w earlier x later (not-in-range 0 (place c x l) (inl (omega arith)))
+
+    -- what stands before x: the last that is new at an earlier place
+    pub once-previous : next c x (reverse (once c (keep p l))) ≡ first (reverse earlier)
+    once-previous =
+        ap (λ k. next c x (reverse k)) once-cut
+        ∙ ap (next c x) (reverse-cut earlier x later)
+        ∙ next-split w (reverse later) x (reverse earlier)
+        (λ i. not-in-range (suc (place c x l)) (length l - suc (place c x l)) (inr (omega arith)) (of-reverse later i))

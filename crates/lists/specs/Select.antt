@@ -1,6 +1,6 @@
 -- Picking from lists, joining them, and finding a place in them.
 use mathlib.Core.Bool.{Bool, true, false, cond, not, _&&_}
-use mathlib.Core.List.{List, [], _∷_, _++_}
+use mathlib.Core.List.{List, [], _∷_, _++_, reverse}
 use mathlib.Core.Option.{Option, none, some}
 use Prim.Native.Nat.{ℕ, zero, suc, _+_, Ordering, compare}
 use lib.Dec.{eqb}
@@ -57,6 +57,10 @@ next c x [] = none
 next c x (y ∷ l) =
     let later = next c x l in
     cond (same c x y) (first l) later
+
+-- the entry that stands before the last x, if there is one
+abbrev pub previous : {A : Type 0} → (A → A → Ordering) → A → List A → Option A
+previous c x l = next c x (reverse l)
 
 -- how many entries stand before the first x (all of them, where x is not there)
 abbrev pub place : {A : Type 0} → (A → A → Ordering) → A → List A → ℕ

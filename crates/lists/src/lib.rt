@@ -1,9 +1,9 @@
-// Comparing two lists of bytes, exchanging two neighbouring blocks of a lent slice, and setting all its places to one number.
+// Comparing two lists of bytes and whether they are the same, exchanging two neighbouring blocks of a lent slice, and setting all its places to one number.
 ghost use denote.Ref.{now};
 ghost use mathlib.Core.Path.{_≡_};
 ghost use Prim.Native.Nat.{suc, _≤_, _<_, compare as compareNumbers};
 ghost use lib.ListN.{length, replicate};
-ghost use Rattle.lists.specs.Order.{lex};
+ghost use Rattle.lists.specs.Order.{lex, same};
 ghost use Rattle.lists.specs.Blocks.{orderingOf, exchanged};
 
 pub enum Order {
@@ -35,6 +35,17 @@ pub fn compare(s: &[u8], t: &[u8]) -> Order
         return Order::Less;
     }
     Order::Equal
+}
+
+// Both slices hold the same bytes.
+pub fn equal(s: &[u8], t: &[u8]) -> bool
+    ensures { λ r. ⌜ r ≡ same (lex compareNumbers) (now (s .entry)) (now (t .entry)) ⌝ }
+{
+    match compare(s, t) {
+        Order::Less => false,
+        Order::Equal => true,
+        Order::Greater => false,
+    }
 }
 
 // The byte at `b` goes to `a`, and those from there to `b` move up by one.

@@ -2,3 +2,4 @@
 pub mod Standing
 pub mod SystemWalks
 pub mod Parts
+pub mod FromRight

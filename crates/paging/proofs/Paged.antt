@@ -13,10 +13,11 @@ use Rattle.patterns.specs.Replies.{page-is}
 use Rattle.memory.specs.Memory.{Holds, HeldSystem}
 use Rattle.memory.proofs.Parts.{held-points, held-unique}
 use Rattle.system_theory.specs.Step.{step}
+use Rattle.system_theory.proofs.Step.{step-keeps}
 use Rattle.system_theory.proofs.Successors.{successors-step, successors-last, successors-none}
 use Rattle.form_theory.proofs.PageBytes.{page-fits}
 use Rattle.stepping.specs.declared.Stepped.{Stepped}
-use Rattle.stepping.specs.declared.Stepped.the-variants.{Next, Last}
+use Rattle.stepping.specs.declared.Stepped.the-variants.{To, Ended}
 use Rattle.stepping.specs.HeldSteps.{HeldNext, SteppedTo}
 use Rattle.stepping.proofs.Following.{next-canonical, step-over, next-again, next-is}
 use Rattle.written.specs.Putting.{Placed}
@@ -78,23 +79,23 @@ module _ {S : System} {wanted : ℕ} {sizes : List ℕ} {k : ℕ} {trees : List 
 
   module _ (r : Stepped) (sizes′ trees′ : List ℕ) (f : (T : System) → Holds T (take k sizes) trees → SteppedTo (step T) r sizes′ trees′) where
     -- all that there are
-    pub paged-last : r ≡ Last → successors wanted S ≡ made
+    pub paged-last : r ≡ Ended → successors wanted S ≡ made
     paged-last e =
         let h = p .held in
         p .page
-        ∙ ap (made ++_) (successors-last (h .system) (h .canonical-is) (wanted - i) (step-over h r sizes′ trees′ f e (h .system) (h .holds)))
+        ∙ ap (made ++_) (successors-last (h .system) (h .canonical-is) (wanted - i) (step-over step r sizes′ trees′ f e (h .system) (h .holds)))
         ∙ append-nil made
 
-    module _ (j : ℕ) (e : r ≡ Next j) (same : length sizes′ ≡ length sizes) (more : i < wanted) where
+    module _ (j : ℕ) (e : r ≡ To j) (same : length sizes′ ≡ length sizes) (more : i < wanted) where
       abbrev next : HeldNext sizes′ j trees′
-      next = next-again (p .held) r sizes′ trees′ f j e same
+      next = next-again step-keeps (p .held) r sizes′ trees′ f j e same
 
       page-next : successors wanted S ≡ (made ++ (next .system ∷ [])) ++ successors (wanted - (i + 1)) (next .system)
       page-next =
           let h = p .held in
           let left : wanted - i ≡ suc (wanted - (i + 1)) = omega arith in
           p .page
-          ∙ ap (made ++_) (rw left (successors-step (h .system) (h .canonical-is) (wanted - (i + 1)) (next .system) (next-is h r sizes′ trees′ f j e same)))
+          ∙ ap (made ++_) (rw left (successors-step (h .system) (h .canonical-is) (wanted - (i + 1)) (next .system) (next-is step-keeps h r sizes′ trees′ f j e same)))
           ∙ sym (append-assoc made (next .system ∷ []) (successors (wanted - (i + 1)) (next .system)))
 
       paged-more : Paged S wanted sizes′ j trees′ (i + 1) (made ++ (next .system ∷ []))

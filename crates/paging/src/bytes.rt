@@ -27,7 +27,7 @@ pub fn write_page(
     let mut at = 0;
     let mut i = 0;
     while i < wanted {
-        let Stepped::Next(count) = follow(sizes, k, trees) else {
+        let Stepped::To(count) = follow(sizes, k, trees) else {
             return Page::Written(i, at);
         };
         at = write_system(&sizes[..count], trees, out, at);

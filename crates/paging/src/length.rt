@@ -20,7 +20,7 @@ pub fn page_length(sizes: &mut [u8], m: usize, trees: &mut [u8], wanted: usize) 
     let mut bytes = 0;
     let mut i = 0;
     while i < wanted {
-        let Stepped::Next(count) = follow(sizes, k, trees) else {
+        let Stepped::To(count) = follow(sizes, k, trees) else {
             return bytes;
         };
         bytes += system_length(&sizes[..count], trees);

@@ -3,8 +3,8 @@ use mathlib.Core.Path.{_≡_, refl}
 use mathlib.Core.Bool.{true, false}
 use mathlib.Core.List.{List, [], _∷_}
 use lib.ListN.{replicate}
-use Rattle.patterns.specs.Entry.{lacks, firstOf, successorOf}
-use Rattle.patterns.specs.Calls.{fresh, wrote, Call, entry, said-last, said-none, refusal, CallsBy, no-buffer, writes, says-last, says-none, refuses, Calls, entries, ended, roomy}
+use Rattle.patterns.specs.Entry.{begins, lacks, firstOf, successorOf}
+use Rattle.patterns.specs.Calls.{fresh, wrote, Call, entry, said-last, said-first, said-none, refusal, CallsBy, no-buffer, writes, says-last, says-first, says-none, refuses, Calls, entries, ended, roomy}
 
 -- the list of one point has one code; after "last" no call is made
 pub calls-of-one-point :
@@ -26,6 +26,10 @@ calls-from-a-code = writes 6 (3 ∷ 1 ∷ 2 ∷ 1 ∷ 2 ∷ 1 ∷ []) (record { 
 pub calls-with-none : CallsBy (λ s. lacks) fresh ((7 ∷ []) ∷ (8 ∷ []) ∷ []) (said-none ∷ [])
 calls-with-none = says-none (7 ∷ []) (record { reply = refl; output = refl })
 
+-- a step that finds the beginning of the list
+pub calls-with-first : CallsBy (λ s. begins) fresh ((7 ∷ []) ∷ (8 ∷ []) ∷ []) (said-first ∷ [])
+calls-with-first = says-first (7 ∷ []) (record { reply = refl; output = refl })
+
 -- the codes written, in order; whether some call said "last"; which buffers are long enough for any code
 abbrev some-calls : Call → List Call
 some-calls end = entry (1 ∷ []) ∷ end ∷ refusal 8 [] ∷ entry (2 ∷ []) ∷ []
@@ -33,9 +37,12 @@ some-calls end = entry (1 ∷ []) ∷ end ∷ refusal 8 [] ∷ entry (2 ∷ []) 
 pub read-off :
     (entries (some-calls said-last) ≡ (1 ∷ []) ∷ (2 ∷ []) ∷ [])
     × (entries (some-calls said-none) ≡ (1 ∷ []) ∷ (2 ∷ []) ∷ [])
+    × (entries (some-calls said-first) ≡ (1 ∷ []) ∷ (2 ∷ []) ∷ [])
     × (ended (some-calls said-last) ≡ true)
+    × (ended (some-calls said-first) ≡ false)
+    × (ended (said-first ∷ said-last ∷ []) ≡ true)
     × (ended (some-calls said-none) ≡ false)
     × (ended (said-none ∷ said-last ∷ []) ≡ true)
     × (ended (some-calls (refusal 8 [])) ≡ false)
     × (roomy (replicate 1000 7 ∷ replicate 999 7 ∷ replicate 1001 7 ∷ []) ≡ 2)
-read-off = (refl, refl, refl, refl, refl, refl, refl)
+read-off = (refl, refl, refl, refl, refl, refl, refl, refl, refl, refl)

@@ -14,5 +14,6 @@ pub mod ReplyExamples
 pub mod ComponentExamples
 pub mod ListExamples
 pub mod PageExamples
+pub mod PredecessorExamples
 pub mod CallExamples
 pub mod ListingExamples

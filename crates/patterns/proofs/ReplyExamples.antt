@@ -3,8 +3,8 @@ use mathlib.Core.Path.{_≡_, refl}
 use mathlib.Core.List.{List, [], _∷_, map}
 use Prim.Native.Nat.{ℕ}
 use Rattle.patterns.specs.declared.Refusal.the-variants.{Count, Image, Truncated, NumberForm, Sizes, NotCanonical, Trailing, Room, Position, Wanted}
-use Rattle.patterns.specs.Replies.{numberOf, Answer, length-is, last, lacking, refused}
-use Rattle.patterns.specs.Entry.{Outcome, gives, ends, lacks, fails, answered, filled}
+use Rattle.patterns.specs.Replies.{numberOf, Answer, length-is, last, first-of-list, lacking, refused}
+use Rattle.patterns.specs.Entry.{Outcome, gives, ends, begins, lacks, fails, answered, filled}
 
 -- the table of causes
 pub causes-numbered :
@@ -31,8 +31,10 @@ pub no-room-needed :
     (on (gives []) [] ≡ (length-is 0, []))
     × (on ends [] ≡ (last, []))
     × (on ends (9 ∷ []) ≡ (last, 9 ∷ []))
+    × (on begins [] ≡ (first-of-list, []))
+    × (on begins (9 ∷ []) ≡ (first-of-list, 9 ∷ []))
     × (on lacks [] ≡ (lacking, []))
     × (on lacks (9 ∷ []) ≡ (lacking, 9 ∷ []))
     × (on (fails Image) [] ≡ (refused 2, []))
     × (on (fails Image) (9 ∷ []) ≡ (refused 2, 9 ∷ []))
-no-room-needed = (refl, refl, refl, refl, refl, refl, refl)
+no-room-needed = (refl, refl, refl, refl, refl, refl, refl, refl, refl)

@@ -12,8 +12,8 @@ use Rattle.patterns.specs.System.{codes}
 use Rattle.patterns.specs.Written.{written}
 use Rattle.patterns.specs.Table.{isTable}
 use Rattle.patterns.specs.Isomorphism.{Isomorphism}
-use Rattle.patterns.specs.Replies.{length-is, last, lacking, refused}
-use Rattle.patterns.specs.Entry.{Outcome, gives, ends, lacks, fails, Replied, firstOf, successorOf, codeOfMap}
+use Rattle.patterns.specs.Replies.{length-is, last, first-of-list, lacking, refused}
+use Rattle.patterns.specs.Entry.{Outcome, gives, ends, begins, lacks, fails, Replied, firstOf, successorOf, codeOfMap}
 
 -- no code is written yet, or the bytes of the code written last
 pub data State : Type 0 where
@@ -25,16 +25,17 @@ abbrev pub stepOf : ℕ → State → Outcome ℕ
 stepOf n fresh = firstOf n
 stepOf n (wrote code) = successorOf code
 
--- what one call did: it wrote these bytes, it said "last" or "none", or it was refused with this cause and this lent buffer
+-- what one call did: it wrote these bytes, it said "last", "first" or "none", or it was refused with this cause and this lent buffer
 pub data Call : Type 0 where
   entry : List ℕ → Call
   said-last : Call
+  said-first : Call
   said-none : Call
   refusal : ℕ → List ℕ → Call
 
 -- CallsBy step s buffers calls: from state s on, with these buffers, one for each call, the calls did this, where `step` is what the next call finds. Of a call
 -- nothing is known but what its entry promises: `Replied` of the outcome, the buffer before it, the answer and the buffer after it. There is a case for every
--- answer: a code is written and the next call is about that code; after "last" or "none" no call is made; after a refusal the same is called with the next buffer.
+-- answer: a code is written and the next call is about that code; after "last", "first" or "none" no call is made; after a refusal the same is called with the next buffer.
 pub data CallsBy (step : State → Outcome ℕ) : State → List (List ℕ) → List Call → Type 0 where
   no-buffer : {s : State} → CallsBy step s [] []
   writes : {s : State} {before : List ℕ} {rest : List (List ℕ)} {calls : List Call} (k : ℕ) (after : List ℕ)
@@ -42,6 +43,8 @@ pub data CallsBy (step : State → Outcome ℕ) : State → List (List ℕ) → 
       → CallsBy step (wrote (take k after)) rest calls → CallsBy step s (before ∷ rest) (entry (take k after) ∷ calls)
   says-last : {s : State} {before : List ℕ} {rest : List (List ℕ)} (after : List ℕ)
       → Replied (step s) before last after → CallsBy step s (before ∷ rest) (said-last ∷ [])
+  says-first : {s : State} {before : List ℕ} {rest : List (List ℕ)} (after : List ℕ)
+      → Replied (step s) before first-of-list after → CallsBy step s (before ∷ rest) (said-first ∷ [])
   says-none : {s : State} {before : List ℕ} {rest : List (List ℕ)} (after : List ℕ)
       → Replied (step s) before lacking after → CallsBy step s (before ∷ rest) (said-none ∷ [])
   refuses : {s : State} {before : List ℕ} {rest : List (List ℕ)} {calls : List Call} (c : ℕ) (after : List ℕ)
@@ -57,6 +60,7 @@ abbrev pub entries : List Call → List (List ℕ)
 entries [] = []
 entries (entry b ∷ calls) = b ∷ entries calls
 entries (said-last ∷ calls) = entries calls
+entries (said-first ∷ calls) = entries calls
 entries (said-none ∷ calls) = entries calls
 entries (refusal c b ∷ calls) = entries calls
 
@@ -65,6 +69,7 @@ abbrev pub ended : List Call → Bool
 ended [] = false
 ended (entry b ∷ calls) = ended calls
 ended (said-last ∷ calls) = true
+ended (said-first ∷ calls) = ended calls
 ended (said-none ∷ calls) = ended calls
 ended (refusal c b ∷ calls) = ended calls
 
@@ -89,6 +94,7 @@ pub record Map (n : ℕ) : Type 0 where
 abbrev pub result : Outcome ℕ → List ℕ
 result (gives l) = l
 result ends = []
+result begins = []
 result lacks = []
 result (fails c) = []
 

@@ -17,12 +17,13 @@ use Rattle.patterns.specs.Table.{image, isTable, systemOfTable}
 use Rattle.patterns.specs.MapOf.{mapOf}
 use Rattle.patterns.specs.Isomorphism.{Isomorphism}
 use Rattle.patterns.specs.Census.{Row, rowsOf, censusRows, height, longestCycle}
-use Rattle.patterns.specs.Replies.{numberOf, Answer, length-is, last, lacking, refused, CensusAnswer, census-is, census-refused, PartAnswer, part-is, part-refused}
+use Rattle.patterns.specs.Replies.{numberOf, Answer, length-is, last, first-of-list, lacking, refused, CensusAnswer, census-is, census-refused, PartAnswer, part-is, part-refused}
 
--- What an entry finds before it looks at the lent output: a result to write, "last", "none", or a refusal.
+-- What an entry finds before it looks at the lent output: a result to write, "last", "first", "none", or a refusal.
 pub data Outcome (A : Type 0) : Type 0 where
   gives : List A → Outcome A
   ends : Outcome A
+  begins : Outcome A
   lacks : Outcome A
   fails : Refusal → Outcome A
 
@@ -30,6 +31,7 @@ pub data Outcome (A : Type 0) : Type 0 where
 abbrev pub answered : {A : Type 0} → Outcome A → List A → Answer
 answered (gives l) out = cond (leb (length l) (length out)) (length-is (length l)) (refused (numberOf Room))
 answered ends out = last
+answered begins out = first-of-list
 answered lacks out = lacking
 answered (fails c) out = refused (numberOf c)
 
@@ -37,6 +39,7 @@ answered (fails c) out = refused (numberOf c)
 abbrev pub filled : {A : Type 0} → Outcome A → List A → List A
 filled (gives l) out = cond (leb (length l) (length out)) (l ++ drop (length l) out) out
 filled ends out = out
+filled begins out = out
 filled lacks out = out
 filled (fails c) out = out
 

@@ -12,6 +12,7 @@ pub mod Census
 pub mod Replies
 pub mod Entry
 pub mod Page
+pub mod Predecessor
 pub mod Calls
 pub mod SignedReplies
 pub mod Decimal

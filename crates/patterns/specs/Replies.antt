@@ -8,6 +8,8 @@ use Rattle.patterns.specs.declared.reply.Reply.{Reply}
 use Rattle.patterns.specs.declared.reply.Reply.the-variants.{Length, Refused}
 use Rattle.patterns.specs.declared.reply.Successor.{Successor}
 use Rattle.patterns.specs.declared.reply.Successor.the-variants.{Length as NextLength, Last, Refused as NoNext}
+use Rattle.patterns.specs.declared.reply.Predecessor.{Predecessor}
+use Rattle.patterns.specs.declared.reply.Predecessor.the-variants.{Length as PreviousLength, First, Refused as NoPrevious}
 use Rattle.patterns.specs.declared.reply.Page.{Page}
 use Rattle.patterns.specs.declared.reply.Page.the-variants.{Written, Refused as NoPage}
 use Rattle.patterns.specs.declared.reply.Isomorphism.{Isomorphism}
@@ -31,10 +33,11 @@ numberOf Room = 8
 numberOf Position = 9
 numberOf Wanted = 10
 
--- A reply in document 01's words: a length (or n, or a number of entries), "last", "none", or a refusal with its number.
+-- A reply in document 01's words: a length (or n, or a number of entries), "last", "none", or a refusal with its number; and "first" of document 02, paper 3.
 pub data Answer : Type 0 where
   length-is : ℕ → Answer
   last : Answer
+  first-of-list : Answer
   lacking : Answer
   refused : ℕ → Answer
 
@@ -62,6 +65,11 @@ abbrev pub successorAnswer : Successor → Answer
 successorAnswer (NextLength n) = length-is n
 successorAnswer Last = last
 successorAnswer (NoNext c) = refused (numberOf c)
+
+abbrev pub predecessorAnswer : Predecessor → Answer
+predecessorAnswer (PreviousLength n) = length-is n
+predecessorAnswer First = first-of-list
+predecessorAnswer (NoPrevious c) = refused (numberOf c)
 
 abbrev pub pageAnswer : Page → PageAnswer
 pageAnswer (Written codes bytes) = page-is codes bytes

@@ -1,10 +1,10 @@
--- The replies of document 01 as one signed number, for callers in C: what is counted is itself, a refusal is minus its number, "last" is −100 and
--- "none" is −101, far from the causes, of which there may be more one day.
+-- The replies of documents 01 and 02 as one signed number, for callers in C: what is counted is itself, a refusal is minus its number, "last" is −100, "none" is −101
+-- and "first" is −102, far from the causes, of which there may be more one day.
 use mathlib.Core.Path.{_≡_}
 use mathlib.Core.List.{List}
 use Prim.Native.Nat.{ℕ}
 use lib.IntN.{ℤ, pos, negℤ}
-use Rattle.patterns.specs.Replies.{Answer, length-is, last, lacking, refused, PageAnswer, page-is, page-refused}
+use Rattle.patterns.specs.Replies.{Answer, length-is, last, first-of-list, lacking, refused, PageAnswer, page-is, page-refused}
 use Rattle.patterns.specs.Census.{rowsOf}
 use Rattle.patterns.specs.Entry.{Outcome, answer, answered, filled, componentOf, IsomorphismReplied, rowsFound, ColumnsFilled}
 use Rattle.patterns.specs.System.{System}
@@ -14,6 +14,7 @@ use Rattle.patterns.specs.Page.{pageFound, pageAnswered}
 abbrev pub signedOf : Answer → ℤ
 signedOf (length-is n) = pos n
 signedOf last = negℤ (pos 100)
+signedOf first-of-list = negℤ (pos 102)
 signedOf lacking = negℤ (pos 101)
 signedOf (refused c) = negℤ (pos c)
 

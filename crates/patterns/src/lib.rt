@@ -5,6 +5,7 @@ mod reply;
 pub use reply::Census;
 pub use reply::Isomorphism;
 pub use reply::Page;
+pub use reply::Predecessor;
 pub use reply::Reply;
 pub use reply::Row;
 pub use reply::Stretch;

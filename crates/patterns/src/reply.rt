@@ -14,6 +14,13 @@ pub enum Successor {
     Refused(Refusal),
 }
 
+// The length of the code that was written, "first", or a refusal with its cause [document 02, paper 3].
+pub enum Predecessor {
+    Length(usize),
+    First,
+    Refused(Refusal),
+}
+
 // How many codes a page has [document 02, paper 2] and how many bytes they take together, or a refusal with its cause.
 pub enum Page {
     Written(usize, usize),

@@ -1,4 +1,4 @@
--- A caller can tell every reply from its number: "last" and "none" are no refusal's number.
+-- A caller can tell every reply from its number: "last", "none" and "first" are no refusal's number.
 use mathlib.Core.Path.{_≡_, refl}
 use mathlib.Core.Bool.{cond}
 use Prim.Native.Nat.{ℕ, zero, suc, _<_}
@@ -9,14 +9,14 @@ use lib.IntN.{ℤ, pos, negsuc, negℤ}
 use Rattle.patterns.specs.declared.Refusal.{Refusal}
 use Rattle.patterns.specs.declared.reply.Page.{Page}
 use Rattle.patterns.specs.declared.reply.Page.the-variants.{Written, Refused}
-use Rattle.patterns.specs.Replies.{Answer, length-is, last, lacking, refused, numberOf, pageAnswer}
+use Rattle.patterns.specs.Replies.{Answer, length-is, last, first-of-list, lacking, refused, numberOf, pageAnswer}
 use Rattle.patterns.specs.SignedReplies.{signedOf, pageCount, pageLength}
 use Rattle.patterns.proofs.Causes.{cause-number}
 
 -- the reply that a caller takes a number for
 abbrev pub replyOf : ℤ → Answer
 replyOf (pos n) = length-is n
-replyOf (negsuc k) = cond (eqb k 99) last (cond (eqb k 100) lacking (refused (suc k)))
+replyOf (negsuc k) = cond (eqb k 99) last (cond (eqb k 100) lacking (cond (eqb k 101) first-of-list (refused (suc k))))
 
 pub length-told : (n : ℕ) → replyOf (signedOf (length-is n)) ≡ length-is n
 length-told n = refl
@@ -24,12 +24,15 @@ length-told n = refl
 pub last-told : replyOf (signedOf last) ≡ last
 last-told = refl
 
+pub first-told : replyOf (signedOf first-of-list) ≡ first-of-list
+first-told = refl
+
 pub none-told : replyOf (signedOf lacking) ≡ lacking
 none-told = refl
 
 cause-told : (c : ℕ) → 0 < c → c < 100 → replyOf (negℤ (pos c)) ≡ refused c
 cause-told zero h k = absurd (omega arith)
-cause-told (suc c) h k = rw (ne-eqb c 99 (λ e. omega arith), ne-eqb c 100 (λ e. omega arith))
+cause-told (suc c) h k = rw (ne-eqb c 99 (λ e. omega arith), ne-eqb c 100 (λ e. omega arith), ne-eqb c 101 (λ e. omega arith))
 
 pub refusal-told : (c : Refusal) → replyOf (signedOf (refused (numberOf c))) ≡ refused (numberOf c)
 refusal-told c = let b = cause-number c in cause-told (numberOf c) (b .0) (b .1)

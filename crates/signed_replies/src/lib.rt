@@ -1,6 +1,7 @@
 // Each reply of the engine as a signed number, that of a page as two, for callers in C: what was counted as it is, a refusal as minus the number of its cause.
 use patterns::Isomorphism;
 use patterns::Page;
+use patterns::Predecessor;
 use patterns::Refusal;
 use patterns::Reply;
 use patterns::Stretch;
@@ -9,7 +10,7 @@ ghost use mathlib.Core.Path.{_≡_};
 ghost use lib.IntN.{pos};
 ghost use mir.Syntax.{w64};
 ghost use mir.Val.{SFits};
-ghost use Rattle.patterns.specs.Replies.{Answer.refused, numberOf, answerOf, successorAnswer, pageAnswer, isomorphismAnswer, partAnswer};
+ghost use Rattle.patterns.specs.Replies.{Answer.refused, numberOf, answerOf, successorAnswer, predecessorAnswer, pageAnswer, isomorphismAnswer, partAnswer};
 ghost use Rattle.patterns.specs.SignedReplies.{signedOf, pageCount, pageLength};
 ghost use Rattle.signed_replies.specs.Ends.{startIn, endIn};
 
@@ -48,6 +49,18 @@ pub fn successor_number(reply: Successor) -> i64
         Successor::Length(n) => counted(n),
         Successor::Last => -100,
         Successor::Refused(cause) => refusal(cause),
+    }
+}
+
+// The number of what the predecessor entry replied.
+pub fn predecessor_number(reply: Predecessor) -> i64
+    requires { ⌜ SFits w64 (signedOf (predecessorAnswer reply)) ⌝ }
+    ensures { λ r. ⌜ r ≡ signedOf (predecessorAnswer reply) ⌝ }
+{
+    match reply {
+        Predecessor::Length(n) => counted(n),
+        Predecessor::First => -102,
+        Predecessor::Refused(cause) => refusal(cause),
     }
 }
 

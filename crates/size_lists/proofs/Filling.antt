@@ -1,6 +1,5 @@
 -- Components written one after another to the right of a component: cycles, or that component again; and the first system.
 use mathlib.Core.Path.{_≡_, refl, ap, ap₂, sym, _∙_}
-use mathlib.Core.Bool.{true}
 use mathlib.Core.List.{List, [], _∷_, _++_, map, append-assoc, append-nil}
 use mathlib.Core.Option.{some}
 use Prim.Native.Nat.{ℕ, zero, suc, _+_, _-_, _≤_, _<_}
@@ -91,7 +90,7 @@ pub fill-copied : (d out after : List ℕ) → length d ≡ length out → after
 fill-copied d out after e f =
     f ∙ ap₂ _++_ (take-length d) (ap (λ k. drop k out) e ∙ drop-length out) ∙ append-nil d ∙ sym (fill-again d (length out) e)
 
-length-fill : (d : List ℕ) (s : ℕ) → length (fillTrees d s) ≡ s
+pub length-fill : (d : List ℕ) (s : ℕ) → length (fillTrees d s) ≡ s
 length-fill d s = by-test (eqb (length d) s) (λ e. rw e (eqb-true (length d) s e)) (λ e. rw e (length-replicate s 1))
 
 -- Sizes up to a place.
@@ -105,45 +104,47 @@ sum-part [] (suc i) = omega arith
 sum-part (x ∷ l) zero = omega arith
 sum-part (x ∷ l) (suc i) = omega (arith, sum-part l i)
 
--- The first i of the sizes are filled, up to the place `at` of the trees.
-pub record Filling (d sizes trees : List ℕ) (i at : ℕ) : Type 0 where
+-- The first i of the sizes are filled, each size s with the trees that f gives for it, up to the place `at` of the trees.
+pub record Filling (f : ℕ → List ℕ) (sizes trees : List ℕ) (i at : ℕ) : Type 0 where
   pub within : i ≤ length sizes
   pub place : at ≡ sum (take i sizes)
   pub room : sum sizes ≡ length trees
-  pub had : take at trees ≡ gather (fillTrees d) (take i sizes)
+  pub had : take at trees ≡ gather f (take i sizes)
+  pub long : (s : ℕ) → length (f s) ≡ s
 
-pub filling-start : (d sizes trees : List ℕ) → sum sizes ≡ length trees → Filling d sizes trees 0 0
-filling-start d sizes trees h = record { within = omega arith; place = refl; room = h; had = refl }
+pub filling-start : {f : ℕ → List ℕ} → ((s : ℕ) → length (f s) ≡ s) → (sizes trees : List ℕ) → sum sizes ≡ length trees → Filling f sizes trees 0 0
+filling-start g sizes trees h = record { within = omega arith; place = refl; room = h; had = refl; long = g }
 
-module _ {d sizes trees : List ℕ} {i at : ℕ} (f : Filling d sizes trees i at) where
+module _ {f : ℕ → List ℕ} {sizes trees : List ℕ} {i at : ℕ} (w : Filling f sizes trees i at) where
   -- the next component lies within the trees
   pub filling-fits : i < length sizes → at + getD sizes i 0 ≤ length trees
-  filling-fits h = omega (arith, f .place, f .room, sum-next sizes i h, sum-part sizes (i + 1))
+  filling-fits h = omega (arith, w .place, w .room, sum-next sizes i h, sum-part sizes (i + 1))
 
   -- one component more
-  pub filling-next : (k : ℕ) (part : List ℕ) → i < length sizes → k ≡ at + getD sizes i 0 → part ≡ fillTrees d (length (take (k - at) (drop at trees)))
-      → Filling d sizes (take at trees ++ (part ++ drop (k - at) (drop at trees))) (i + 1) k
+  pub filling-next : (k : ℕ) (part : List ℕ) → i < length sizes → k ≡ at + getD sizes i 0 → part ≡ f (length (take (k - at) (drop at trees)))
+      → Filling f sizes (take at trees ++ (part ++ drop (k - at) (drop at trees))) (i + 1) k
   filling-next k part h e p =
       let fits = filling-fits h in
       let len : length (take (k - at) (drop at trees)) ≡ k - at = length-take-le (k - at) (drop at trees) (omega (arith, length-drop at trees)) in
-      let n : length part ≡ k - at = ap length p ∙ length-fill d (length (take (k - at) (drop at trees))) ∙ len in
+      let n : length part ≡ k - at = ap length p ∙ w .long (length (take (k - at) (drop at trees))) ∙ len in
       let front : length (take at trees) ≡ at = length-take-le at trees (omega arith) in
       let q : k - at ≡ getD sizes i 0 = omega arith in
       let joined : length (take at trees ++ part) ≡ k = omega (arith, length-append (take at trees) part) in
       record {
         within = omega arith;
-        place = omega (arith, f .place, sum-next sizes i h);
-        room = f .room ∙ simp (length-append, length-drop) (omega arith);
+        place = omega (arith, w .place, sum-next sizes i h);
+        room = w .room ∙ simp (length-append, length-drop) (omega arith);
+        long = w .long;
         had =
             ap (take k) (sym (append-assoc (take at trees) part (drop (k - at) (drop at trees))))
             ∙ take-at (take at trees ++ part) (drop (k - at) (drop at trees)) k joined
-            ∙ ap₂ _++_ (f .had) (p ∙ ap (fillTrees d) (len ∙ q))
-            ∙ rw (add-one i, take-suc sizes i 0 h, gather-append (fillTrees d) (take i sizes) (getD sizes i 0 ∷ []), append-nil);
+            ∙ ap₂ _++_ (w .had) (p ∙ ap f (len ∙ q))
+            ∙ rw (add-one i, take-suc sizes i 0 h, gather-append f (take i sizes) (getD sizes i 0 ∷ []), append-nil);
       }
 
   -- all are filled
-  pub filling-end : length sizes ≤ i → trees ≡ gather (fillTrees d) sizes
+  pub filling-end : length sizes ≤ i → trees ≡ gather f sizes
   filling-end h =
       let e : take i sizes ≡ sizes = take-all i sizes h in
-      let n : length trees ≤ at = omega (arith, f .room, f .place, ap sum e) in
-      sym (take-all at trees n) ∙ f .had ∙ ap (gather (fillTrees d)) e
+      let n : length trees ≤ at = omega (arith, w .room, w .place, ap sum e) in
+      sym (take-all at trees n) ∙ w .had ∙ ap (gather f) e

@@ -19,7 +19,7 @@ use Rattle.system_theory.proofs.Sizes.{least-alone, least-more}
 use Rattle.system_theory.proofs.StepScan.{nextSizes-at}
 
 -- positive sizes are at most as many as their points
-count-sum : (l : List ℕ) → each (ltb 0) l ≡ true → length l ≤ sum l
+pub count-sum : (l : List ℕ) → each (ltb 0) l ≡ true → length l ≤ sum l
 count-sum [] e = omega arith
 count-sum (x ∷ l) e = omega (arith, ltb-true 0 x (each-head (ltb 0) x l e), count-sum l (each-tail (ltb 0) x l e))
 

@@ -7,14 +7,12 @@ use Prim.Native.Nat.{ℕ, _≤_}
 use native.Mathlib.Omega.{arith}
 use lib.ListN.{length, take, length-take}
 use Rattle.lists.proofs.Tests.{clash}
-use Rattle.patterns.specs.System.{System, canonical}
+use Rattle.patterns.specs.System.{System, weight, canonical}
 use Rattle.memory.specs.Memory.{Holds}
 use Rattle.memory.proofs.Parts.{held-count, held-points, held-unique}
 use Rattle.stepping.specs.declared.Stepped.{Stepped}
-use Rattle.stepping.specs.declared.Stepped.the-variants.{Next, Last}
+use Rattle.stepping.specs.declared.Stepped.the-variants.{To, Ended}
 use Rattle.stepping.specs.HeldSteps.{HeldStep, HeldNext, SteppedTo}
-use Rattle.system_theory.specs.Step.{step}
-use Rattle.system_theory.proofs.Step.{step-keeps}
 
 -- a canonical system in the first places of 200
 pub held-next : {S : System} {sizes : List ℕ} {m : ℕ} {trees : List ℕ} → Holds S (take m sizes) trees → canonical S ≡ true → m ≤ length sizes → length sizes ≡ 200
@@ -37,38 +35,47 @@ module _ {sizes : List ℕ} {m : ℕ} {trees : List ℕ} (h : HeldNext sizes m t
   pub next-canonical : (S : System) → Holds S (take m sizes) trees → canonical S ≡ true
   next-canonical S k = ap canonical (sym (held-unique (h .holds) k)) ∙ h .canonical-is
 
-  module _ (r : Stepped) (sizes′ trees′ : List ℕ) (f : (S : System) → Holds S (take m sizes) trees → SteppedTo (step S) r sizes′ trees′) where
-    -- there is none
-    pub step-over : r ≡ Last → (S : System) → Holds S (take m sizes) trees → step S ≡ none
-    step-over e S i = of (step S) refl (f S i)
-      where
-        of : (o : Option System) → step S ≡ o → SteppedTo o r sizes′ trees′ → step S ≡ none
-        of none p q = p
-        of (some T) p q = let y = sym e ∙ q .0 in clash cc
+-- After a step of any kind, forward or backward.
+module _ (walk : System → Option System) {sizes trees : List ℕ} (r : Stepped) (sizes′ trees′ : List ℕ)
+    (f : (S : System) → Holds S sizes trees → SteppedTo (walk S) r sizes′ trees′) where
+  -- there is none
+  pub step-over : r ≡ Ended → (S : System) → Holds S sizes trees → walk S ≡ none
+  step-over e S i = of (walk S) refl (f S i)
+    where
+      of : (o : Option System) → walk S ≡ o → SteppedTo o r sizes′ trees′ → walk S ≡ none
+      of none p q = p
+      of (some T) p q = let y = sym e ∙ q .0 in clash cc
 
-    module _ (k : ℕ) (e : r ≡ Next k) where
-      -- there is one, of k components
-      pub step-found : (S : System) → Holds S (take m sizes) trees → (T : System) × (step S ≡ some T) × (Holds T (take k sizes′) trees′) × (length T ≡ k)
-      step-found S i = of (step S) refl (f S i)
-        where
-          of : (o : Option System) → step S ≡ o → SteppedTo o r sizes′ trees′
-              → (T : System) × (step S ≡ some T) × (Holds T (take k sizes′) trees′) × (length T ≡ k)
-          of none p q = let y = sym e ∙ q in clash cc
-          of (some T) p q = let y = sym e ∙ q .0 in let z : k ≡ length T = cc in (T, p, rw z (q .1), sym z)
+  -- there is one, of k components
+  pub step-found : (k : ℕ) → r ≡ To k → (S : System) → Holds S sizes trees
+      → (T : System) × (walk S ≡ some T) × (Holds T (take k sizes′) trees′) × (length T ≡ k)
+  step-found k e S i = of (walk S) refl (f S i)
+    where
+      of : (o : Option System) → walk S ≡ o → SteppedTo o r sizes′ trees′
+          → (T : System) × (walk S ≡ some T) × (Holds T (take k sizes′) trees′) × (length T ≡ k)
+      of none p q = let y = sym e ∙ q in clash cc
+      of (some T) p q = let y = sym e ∙ q .0 in let z : k ≡ length T = cc in (T, p, rw z (q .1), sym z)
 
-      -- memory holds it, for the next step
-      pub next-again : length sizes′ ≡ length sizes → HeldNext sizes′ k trees′
-      next-again s =
-          let t = step-found (h .system) (h .holds) in
-          let g = step-keeps (h .system) (t .0) (h .canonical-is) (t .1) in
-          record {
-            system = t .0;
-            holds = t .2;
-            canonical-is = g .0;
-            within = omega (arith, held-count (t .2), length-take k sizes′, t .3);
-            places = s ∙ h .places;
-            small = omega (arith, held-points (t .2), g .1, held-points (h .holds), h .small);
-          }
+-- the step keeps canonical and the number of points
+abbrev Keeps : (System → Option System) → Type 0
+Keeps walk = (S R : System) → canonical S ≡ true → walk S ≡ some R → (canonical R ≡ true) × (weight R ≡ weight S)
 
-      pub next-is : (s : length sizes′ ≡ length sizes) → step (h .system) ≡ some (next-again s .system)
-      next-is s = let t = step-found (h .system) (h .holds) in t .1 ∙ ap some (held-unique (t .2) (next-again s .holds))
+module _ {walk : System → Option System} (keeps : Keeps walk) {sizes : List ℕ} {m : ℕ} {trees : List ℕ} (h : HeldNext sizes m trees)
+    (r : Stepped) (sizes′ trees′ : List ℕ) (f : (S : System) → Holds S (take m sizes) trees → SteppedTo (walk S) r sizes′ trees′)
+    (k : ℕ) (e : r ≡ To k) (s : length sizes′ ≡ length sizes) where
+  -- memory holds what it led to, for the next step
+  pub next-again : HeldNext sizes′ k trees′
+  next-again =
+      let t = step-found walk r sizes′ trees′ f k e (h .system) (h .holds) in
+      let g = keeps (h .system) (t .0) (h .canonical-is) (t .1) in
+      record {
+        system = t .0;
+        holds = t .2;
+        canonical-is = g .0;
+        within = omega (arith, held-count (t .2), length-take k sizes′, t .3);
+        places = s ∙ h .places;
+        small = omega (arith, held-points (t .2), g .1, held-points (h .holds), h .small);
+      }
+
+  pub next-is : walk (h .system) ≡ some (next-again .system)
+  next-is = let t = step-found walk r sizes′ trees′ f k e (h .system) (h .holds) in t .1 ∙ ap some (held-unique (t .2) (next-again .holds))

@@ -7,7 +7,7 @@ use Prim.Native.Nat.{ℕ, _≤_}
 use lib.ListN.{length, take}
 use Rattle.patterns.specs.System.{System, canonical}
 use Rattle.stepping.specs.declared.Stepped.{Stepped}
-use Rattle.stepping.specs.declared.Stepped.the-variants.{Next, Last}
+use Rattle.stepping.specs.declared.Stepped.the-variants.{To, Ended}
 use Rattle.bumping.specs.HeldBumps.{Work}
 use Rattle.memory.specs.Memory.{Holds}
 
@@ -30,7 +30,7 @@ pub record HeldNext (sizes : List ℕ) (m : ℕ) (trees : List ℕ) : Type 0 whe
   pub places : length sizes ≡ 200
   pub small : length trees ≤ 200
 
--- the next system, if there is one, with its sizes in the first places
+-- the system that the step leads to, if there is one, with its sizes in the first places
 abbrev pub SteppedTo : Option System → Stepped → List ℕ → List ℕ → Type 0
-SteppedTo none r sizes trees = r ≡ Last
-SteppedTo (some T) r sizes trees = (r ≡ Next (length T)) × Holds T (take (length T) sizes) trees
+SteppedTo none r sizes trees = r ≡ Ended
+SteppedTo (some T) r sizes trees = (r ≡ To (length T)) × Holds T (take (length T) sizes) trees

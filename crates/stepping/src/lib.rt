@@ -10,10 +10,10 @@ ghost use Rattle.system_theory.specs.Step.{step};
 ghost use Rattle.memory.specs.Memory.{Holds};
 ghost use Rattle.stepping.specs.HeldSteps.{HeldStep, HeldNext, SteppedTo};
 
-// The step to the next system: how many components it has, or there is none.
+// A step through the list of all codes, forward or backward: how many components the system has that it leads to, or the list ends.
 pub enum Stepped {
-    Next(usize),
-    Last,
+    To(usize),
+    Ended,
 }
 
 // The system that follows in the list of all codes. `trees` holds the system, and the first m places of `sizes` its sizes; the first places of
@@ -31,14 +31,14 @@ fn next_system(
         → SteppedTo (step S) r (now (sizes .exit)) (now (trees .exit))) ⌝ }
 {
     if bump(&sizes[..m], trees, up, side, out) {
-        return Stepped::Next(m);
+        return Stepped::To(m);
     }
     let k = next_sizes(sizes, m);
     if k == 0 {
-        return Stepped::Last;
+        return Stepped::Ended;
     }
     set_all(trees, 1);
-    Stepped::Next(k)
+    Stepped::To(k)
 }
 
 // The same with work space of its own, where `sizes` has 200 places.

@@ -1,4 +1,5 @@
-// What follows a component in generation order [document 004, Theorem 13]. A component is flat: a byte for each point.
+// What follows a component in generation order, and what stands before it [document 004, Theorem 13]. The two are one step in two directions: backward the children come
+// from the last to the first, and the depths change parts. A component is flat: a byte for each point.
 use bytes::copy;
 use generation::Sibling;
 use generation::first_child;
@@ -8,16 +9,29 @@ use trees::count;
 ghost use denote.Ref.{now};
 ghost use mathlib.Core.Path.{_≡_};
 ghost use Rattle.patterns.specs.Component.{Component, flat};
-ghost use Rattle.component_theory.specs.Successor.{afterEven, afterOdd, successor as successorOf};
+ghost use Rattle.component_theory.specs.LocalStep.{early};
+ghost use Rattle.component_theory.specs.Successor.{beyondEarly, beyondLate, neighbour, successor as successorOf, predecessor as predecessorOf};
 ghost use Rattle.children.specs.Candidates.{Gave};
-ghost use Rattle.generation.specs.HeldNodes.{Node, AsLong};
+ghost use Rattle.scanning.specs.HeldNodes.{Node, AsLong};
 
-// What follows a component of even depth and its descendants.
-pub fn after_even(s: &[u8], up: &mut [u8], out: &mut [u8]) -> bool
-    requires { ⌜ Node (now s) × AsLong (now s) (now out) × AsLong (now s) (now up) ⌝ }
-    ensures { λ r. ⌜ ((c : Component) → now (s .entry) ≡ flat c → Gave (afterEven c) r (now (out .exit))) ⌝ }
+// Whether a component comes before its descendants: forward at even depth, backward at odd depth.
+fn is_early(forward: bool, s: &[u8]) -> bool
+    requires { ⌜ Node (now s) ⌝ }
+    ensures { λ r. ⌜ ((c : Component) → now (s .entry) ≡ flat c → r ≡ early forward c) ⌝ }
 {
-    match next_sibling(s, up, out) {
+    let depth = s.len() - count(s);
+    if forward {
+        return depth % 2 == 0;
+    }
+    depth % 2 != 0
+}
+
+// What follows a component that comes before its descendants, and these.
+fn after_early(forward: bool, s: &[u8], up: &mut [u8], out: &mut [u8]) -> bool
+    requires { ⌜ Node (now s) × AsLong (now s) (now out) × AsLong (now s) (now up) ⌝ }
+    ensures { λ r. ⌜ ((c : Component) → now (s .entry) ≡ flat c → Gave (beyondEarly forward c) r (now (out .exit))) ⌝ }
+{
+    match next_sibling(forward, s, up, out) {
         Sibling::Root => false,
         Sibling::Next => true,
         Sibling::Last => {
@@ -27,19 +41,34 @@ pub fn after_even(s: &[u8], up: &mut [u8], out: &mut [u8]) -> bool
     }
 }
 
-// What follows a component of odd depth and its descendants.
-pub fn after_odd(s: &[u8], up: &mut [u8], side: &mut [u8], out: &mut [u8]) -> bool
+// The same where it comes after them.
+fn after_late(forward: bool, s: &[u8], up: &mut [u8], side: &mut [u8], out: &mut [u8]) -> bool
     requires { ⌜ Node (now s) × AsLong (now s) (now out) × AsLong (now s) (now up) × AsLong (now s) (now side) ⌝ }
-    ensures { λ r. ⌜ ((c : Component) → now (s .entry) ≡ flat c → Gave (afterOdd c) r (now (out .exit))) ⌝ }
+    ensures { λ r. ⌜ ((c : Component) → now (s .entry) ≡ flat c → Gave (beyondLate forward c) r (now (out .exit))) ⌝ }
 {
-    match next_sibling(s, up, side) {
+    match next_sibling(forward, s, up, side) {
         Sibling::Root => false,
         Sibling::Next => {
-            opening(side, out);
+            opening(forward, side, out);
             true
         }
-        Sibling::Last => after_even(up, side, out),
+        Sibling::Last => after_early(forward, up, side, out),
     }
+}
+
+// What follows a component in a direction.
+fn step(forward: bool, s: &[u8], up: &mut [u8], side: &mut [u8], out: &mut [u8]) -> bool
+    requires { ⌜ Node (now s) × AsLong (now s) (now out) × AsLong (now s) (now up) × AsLong (now s) (now side) ⌝ }
+    ensures { λ r. ⌜ ((c : Component) → now (s .entry) ≡ flat c → Gave (neighbour forward c) r (now (out .exit))) ⌝ }
+{
+    if !is_early(forward, s) {
+        return after_late(forward, s, up, side, out);
+    }
+    if first_child(forward, s, side) {
+        opening(forward, side, out);
+        return true;
+    }
+    after_early(forward, s, up, out)
 }
 
 // What follows a component in generation order.
@@ -47,13 +76,13 @@ pub fn successor(s: &[u8], up: &mut [u8], side: &mut [u8], out: &mut [u8]) -> bo
     requires { ⌜ Node (now s) × AsLong (now s) (now out) × AsLong (now s) (now up) × AsLong (now s) (now side) ⌝ }
     ensures { λ r. ⌜ ((c : Component) → now (s .entry) ≡ flat c → Gave (successorOf c) r (now (out .exit))) ⌝ }
 {
-    let depth = s.len() - count(s);
-    if depth % 2 != 0 {
-        return after_odd(s, up, side, out);
-    }
-    if first_child(s, side) {
-        opening(side, out);
-        return true;
-    }
-    after_even(s, up, out)
+    step(true, s, up, side, out)
+}
+
+// What stands before a component in generation order.
+pub fn predecessor(s: &[u8], up: &mut [u8], side: &mut [u8], out: &mut [u8]) -> bool
+    requires { ⌜ Node (now s) × AsLong (now s) (now out) × AsLong (now s) (now up) × AsLong (now s) (now side) ⌝ }
+    ensures { λ r. ⌜ ((c : Component) → now (s .entry) ≡ flat c → Gave (predecessorOf c) r (now (out .exit))) ⌝ }
+{
+    step(false, s, up, side, out)
 }

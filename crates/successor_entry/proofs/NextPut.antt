@@ -13,12 +13,12 @@ use Rattle.patterns.specs.Replies.{Answer, last, refused, numberOf}
 use Rattle.patterns.specs.Entry.{gives, listed, Replied, successorOf}
 use Rattle.memory.specs.Memory.{Holds, HeldSystem}
 use Rattle.stepping.specs.declared.Stepped.{Stepped}
-use Rattle.stepping.specs.declared.Stepped.the-variants.{Next, Last}
+use Rattle.stepping.specs.declared.Stepped.the-variants.{To, Ended}
 use Rattle.stepping.specs.HeldSteps.{HeldNext, SteppedTo}
 use Rattle.stepping.proofs.Following.{held-next, next-canonical, step-over, step-found, next-again}
 use Rattle.system_theory.specs.Step.{step}
 use Rattle.memory.proofs.Parts.{held-points}
-use Rattle.system_theory.proofs.Step.{step-is}
+use Rattle.system_theory.proofs.Step.{step-is, step-keeps}
 use Rattle.writing.proofs.CanonicalHeld.{canonical-held}
 use Rattle.acceptance.proofs.Taken.{Taken, taken-count}
 
@@ -26,27 +26,27 @@ use Rattle.acceptance.proofs.Taken.{Taken, taken-count}
 module _ {sizes : List ℕ} {m : ℕ} {trees : List ℕ} (h : HeldNext sizes m trees)
     (r : Stepped) (sizes′ trees′ : List ℕ) (f : (S : System) → Holds S (take m sizes) trees → SteppedTo (step S) r sizes′ trees′) where
   -- there is none
-  pub next-last : r ≡ Last → (before : List ℕ) (S : System) → Holds S (take m sizes) trees
+  pub next-last : r ≡ Ended → (before : List ℕ) (S : System) → Holds S (take m sizes) trees
       → Replied (listed (next compareSystem S (codes (weight S)))) before last before
   next-last e before S k =
-      rw (step-is S (next-canonical h S k), step-over h r sizes′ trees′ f e S k) (record { reply = refl; output = refl })
+      rw (step-is S (next-canonical h S k), step-over step r sizes′ trees′ f e S k) (record { reply = refl; output = refl })
 
-  module _ (k : ℕ) (e : r ≡ Next k) where
+  module _ (k : ℕ) (e : r ≡ To k) where
     -- the memory holds the next system
     pub next-held : length sizes′ ≡ length sizes → HeldSystem (take k sizes′) trees′
     next-held s =
-        let n = next-again h r sizes′ trees′ f k e s in
+        let n = next-again step-keeps h r sizes′ trees′ f k e s in
         canonical-held (n .holds) (n .canonical-is) (omega (arith, held-points (n .holds), n .small))
 
     pub next-within : length sizes′ ≡ length sizes → k ≤ length sizes′
-    next-within s = next-again h r sizes′ trees′ f k e s .within
+    next-within s = next-again step-keeps h r sizes′ trees′ f k e s .within
 
     -- and its code was put
     pub next-put : {before after : List ℕ} {a : Answer}
         → ((T : System) → Holds T (take k sizes′) trees′ → Replied (gives (written T)) before a after)
         → (S : System) → Holds S (take m sizes) trees → Replied (listed (next compareSystem S (codes (weight S)))) before a after
     next-put {before} {after} {a} p S i =
-        let t = step-found h r sizes′ trees′ f k e S i in
+        let t = step-found step r sizes′ trees′ f k e S i in
         rw (step-is S (next-canonical h S i), t .1) (p (t .0) (t .2))
 
 -- The successor of a written code.

@@ -34,8 +34,8 @@ fn put_next(sizes: &mut [u8], m: usize, trees: &mut [u8], out: &mut [u8]) -> Suc
         → Replied (listed (next compareSystem S (codes (weight S)))) (now (out .entry)) (successorAnswer r) (now (out .exit))) ⌝ }
 {
     match follow(sizes, m, trees) {
-        Stepped::Last => Successor::Last,
-        Stepped::Next(k) => as_successor(put_system(&sizes[..k], trees, out)),
+        Stepped::Ended => Successor::Last,
+        Stepped::To(k) => as_successor(put_system(&sizes[..k], trees, out)),
     }
 }
 

@@ -84,12 +84,12 @@ firsts (suc k) c n h e =
     rw (ne-eqb c n (λ q. omega arith), t)
     (firsts k (suc c) n (omega arith) (omega arith) ∙ rw (lt-leb (suc c + suc c) n (omega arith))))
 
-sizes-none : (k a : ℕ) → sizeLists k a 0 ≡ [] ∷ []
+pub sizes-none : (k a : ℕ) → sizeLists k a 0 ≡ [] ∷ []
 unfolding sizeLists
 sizes-none zero a = refl
 sizes-none (suc k) a = refl
 
-sizes-some : (k a n : ℕ) → 0 < n → sizeLists (suc k) a n ≡ gather (λ b. map (b ∷_) (sizeLists k b (n - b))) (firstSizes a n)
+pub sizes-some : (k a n : ℕ) → 0 < n → sizeLists (suc k) a n ≡ gather (λ b. map (b ∷_) (sizeLists k b (n - b))) (firstSizes a n)
 unfolding sizeLists
 sizes-some k a n h = rw (ne-eqb n 0 (λ e. omega arith))
 
@@ -170,7 +170,7 @@ piece-first k n b h c f =
     rw (z, sizes-none k b, least-alone n b n (omega arith)) (ap (λ x. some (x ∷ [])) e))
     (λ e. first-map (b ∷_) (sizeLists k b (n - b)) ∙ ap (Option·map (b ∷_)) (f (omega arith)) ∙ ap some (sym (least-more b n h e)))
 
-firstSizes-first : (a n : ℕ) → 1 ≤ a → a ≤ n → first (firstSizes a n) ≡ some (cond (leb (a + a) n) a n)
+pub firstSizes-first : (a n : ℕ) → 1 ≤ a → a ≤ n → first (firstSizes a n) ≡ some (cond (leb (a + a) n) a n)
 unfolding firstSizes
 firstSizes-first a n h i =
     let e : suc n - a ≡ suc (n - a) = omega arith in
@@ -205,7 +205,7 @@ firstSizes-cut a n b h c =
     ∙ rw (begins-in n b c)
 
 -- n is the last number to begin with
-after-last : (a n : ℕ) → a ≤ n → Within n (firstSizes a n) none
+pub after-last : (a n : ℕ) → a ≤ n → Within n (firstSizes a n) none
 after-last a n h =
     let z : n - n ≡ 0 = omega arith in
     record {
@@ -216,7 +216,7 @@ after-last a n h =
     }
 
 -- after another one comes the next number while twice that is at most n, and then n
-after-one : (a n b : ℕ) → 1 ≤ a → a ≤ b → b + b ≤ n → Within b (firstSizes a n) (some (cond (leb (suc b + suc b) n) (suc b) n))
+pub after-one : (a n b : ℕ) → 1 ≤ a → a ≤ b → b + b ≤ n → Within b (firstSizes a n) (some (cond (leb (suc b + suc b) n) (suc b) n))
 after-one a n b h i p =
     let z : n - b ≡ suc (n - suc b) = omega arith in
     record {

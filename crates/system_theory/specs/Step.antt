@@ -8,7 +8,7 @@ use Rattle.lists.specs.Select.{otherwise}
 use Rattle.patterns.specs.Component.{Component, points}
 pub use Rattle.patterns.specs.Generation.{cycle}
 use Rattle.patterns.specs.System.{System}
-use Rattle.component_theory.specs.Successor.{successor}
+use Rattle.component_theory.specs.Successor.{neighbour, successor}
 
 -- the least nondecreasing list of numbers from v on with sum n, of at most k + 1 numbers: v while no less than v is left behind it, then what is left
 unfoldable pub leastSizes : ℕ → ℕ → ℕ → List ℕ
@@ -33,7 +33,7 @@ fills d sizes = map (fill d) sizes
 
 -- the next system with the same sizes: the rightmost component that has a successor gives way to it, and the first way to fill the rest follows
 unfoldable pub bump : System → Option System
-unfolding successor
+unfolding neighbour
 bump [] = none
 bump (c ∷ S) = otherwise (Option·map (c ∷_) (bump S)) (Option·map (λ d. d ∷ fills d (map points S)) (successor c))
 

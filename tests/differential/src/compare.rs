@@ -4,8 +4,21 @@ use sides::maps::is_isomorphism;
 use sides::{PageReply, Side, ENGINE, REFERENCE};
 use std::fmt::Write;
 
-pub const ENTRIES: [&str; 12] =
-    ["accept", "first", "successor", "page", "code_of_map", "map_of_code", "isomorphism", "census", "height", "longest_cycle", "component_start", "component_end"];
+pub const ENTRIES: [&str; 13] = [
+    "accept",
+    "first",
+    "successor",
+    "predecessor",
+    "page",
+    "code_of_map",
+    "map_of_code",
+    "isomorphism",
+    "census",
+    "height",
+    "longest_cycle",
+    "component_start",
+    "component_end",
+];
 
 /// The bytes in front of a lent buffer and behind it.
 const MARGIN: usize = 16;
@@ -20,6 +33,16 @@ struct Lent {
 impl Lent {
     fn new(room: usize) -> Lent {
         Lent { bytes: (0..room + 2 * MARGIN).map(|i| (i as u8).wrapping_mul(37) ^ 0xa5).collect(), room }
+    }
+
+    fn holding(bytes: &[u8]) -> Lent {
+        let mut lent = Lent::new(bytes.len());
+        lent.out().copy_from_slice(bytes);
+        lent
+    }
+
+    fn lent(&self) -> &[u8] {
+        &self.bytes[MARGIN..MARGIN + self.room]
     }
 
     fn out(&mut self) -> &mut [u8] {
@@ -75,12 +98,15 @@ impl Comparison {
         self.count(entry, engine == reference, |text| write!(text, "engine {engine}, reference {reference}, input {input:?}").unwrap());
     }
 
-    fn buffers(&mut self, entry: &str, input: &[u8], room: usize, call: impl Fn(&Side, &mut [u8]) -> i64) {
-        let (mut by_engine, mut by_reference) = (Lent::new(room), Lent::new(room));
-        let (engine, reference) = (call(&ENGINE, by_engine.out()), call(&REFERENCE, by_reference.out()));
-        self.count(entry, engine == reference && by_engine == by_reference, |text| {
+    /// The input, too, has bytes around it, and all of them have to be kept.
+    fn buffers(&mut self, entry: &str, input: &[u8], room: usize, call: impl Fn(&Side, &[u8], &mut [u8]) -> i64) {
+        let (given, mut by_engine, mut by_reference) = (Lent::holding(input), Lent::new(room), Lent::new(room));
+        let (engine, reference) = (call(&ENGINE, given.lent(), by_engine.out()), call(&REFERENCE, given.lent(), by_reference.out()));
+        let kept = *std::hint::black_box(&given) == Lent::holding(input);
+        self.count(entry, engine == reference && by_engine == by_reference && kept, |text| {
             let (e, r) = (by_engine.out(), by_reference.out());
-            write!(text, "engine {engine} {e:?}, reference {reference} {r:?}, room {room}, input {input:?}").unwrap()
+            let around = if kept { "kept" } else { "not kept" };
+            write!(text, "engine {engine} {e:?}, reference {reference} {r:?}, room {room}, input {around}, {input:?}").unwrap()
         });
     }
 
@@ -89,11 +115,15 @@ impl Comparison {
     }
 
     pub fn first(&mut self, n: usize, room: usize) {
-        self.buffers("first", &n.to_le_bytes(), room, |side, out| (side.first)(n, out));
+        self.buffers("first", &n.to_le_bytes(), room, |side, _, out| (side.first)(n, out));
     }
 
     pub fn successor(&mut self, code: &[u8], room: usize) {
-        self.buffers("successor", code, room, |side, out| (side.successor)(code, out));
+        self.buffers("successor", code, room, |side, code, out| (side.successor)(code, out));
+    }
+
+    pub fn predecessor(&mut self, code: &[u8], room: usize) {
+        self.buffers("predecessor", code, room, |side, code, out| (side.predecessor)(code, out));
     }
 
     pub fn page(&mut self, code: &[u8], wanted: usize, room: usize) {
@@ -112,11 +142,11 @@ impl Comparison {
     }
 
     pub fn code_of_map(&mut self, table: &[u8], room: usize) {
-        self.buffers("code_of_map", table, room, |side, out| (side.code_of_map)(table, out));
+        self.buffers("code_of_map", table, room, |side, table, out| (side.code_of_map)(table, out));
     }
 
     pub fn map_of_code(&mut self, code: &[u8], room: usize) {
-        self.buffers("map_of_code", code, room, |side, out| (side.map_of_code)(code, out));
+        self.buffers("map_of_code", code, room, |side, code, out| (side.map_of_code)(code, out));
     }
 
     pub fn height(&mut self, table: &[u8]) {

@@ -19,6 +19,9 @@ pub fn code(comparison: &mut Comparison, code: &[u8]) {
     for room in rooms(&written(|out| (REFERENCE.successor)(code, out))) {
         comparison.successor(code, room);
     }
+    for room in rooms(&written(|out| (REFERENCE.predecessor)(code, out))) {
+        comparison.predecessor(code, room);
+    }
     for room in rooms(&written(|out| (REFERENCE.map_of_code)(code, out))) {
         comparison.map_of_code(code, room);
     }

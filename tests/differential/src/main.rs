@@ -9,18 +9,21 @@ mod model;
 use compare::{Comparison, ENTRIES};
 use sides::maps::{shuffled, small_components, uniform, KINDS};
 use sides::random::Random;
-use sides::{code_of, written, PageReply, Side, ENGINE, EVERY_PAGE, MOST_WANTED, REFERENCE};
+use sides::{code_of, written, PageReply, ENGINE, EVERY_PAGE, MOST_WANTED, REFERENCE};
 use std::path::Path;
 use std::process::ExitCode;
 
 /// The calls that a run has to make.
 const LEAST_CALLS: u64 = 1_000_000;
 
-/// A code, and those after it that successor calls of a side write in turn, at most so many.
-fn in_turn(side: &Side, code: Vec<u8>, most: usize) -> Vec<Vec<u8>> {
+/// An entry that steps from a code to a neighbour in the list.
+type Step = fn(&[u8], &mut [u8]) -> i64;
+
+/// A code, and those that calls of an entry write in turn from it on, at most so many.
+fn in_turn(step: Step, code: Vec<u8>, most: usize) -> Vec<Vec<u8>> {
     let mut found = vec![code];
     while found.len() <= most {
-        let Ok(code) = written(|out| (side.successor)(&found[found.len() - 1], out)) else { break };
+        let Ok(code) = written(|out| step(&found[found.len() - 1], out)) else { break };
         found.push(code);
     }
     found
@@ -28,7 +31,7 @@ fn in_turn(side: &Side, code: Vec<u8>, most: usize) -> Vec<Vec<u8>> {
 
 /// All codes of n points.
 fn codes(n: usize) -> Vec<Vec<u8>> {
-    in_turn(&REFERENCE, written(|out| (REFERENCE.first)(n, out)).expect("a first code"), usize::MAX)
+    in_turn(REFERENCE.successor, written(|out| (REFERENCE.first)(n, out)).expect("a first code"), usize::MAX)
 }
 
 /// Every count up to some above 200, and huge ones, with rooms around the length.
@@ -122,18 +125,48 @@ fn kinds(comparison: &mut Comparison, random: &mut Random, rounds: usize) {
     }
 }
 
-/// Successors one after another, from codes of every kind.
+/// Steps forward one after another, and steps back, from codes of every kind.
 fn steps(comparison: &mut Comparison, random: &mut Random, rounds: usize) {
     for (_, kind) in KINDS {
         for _ in 0..rounds {
-            let mut code = code_of(&kind(any_count(random), random));
-            for _ in 0..60 {
+            let start = code_of(&kind(any_count(random), random));
+            for code in in_turn(REFERENCE.successor, start.clone(), 60) {
                 comparison.accept(&code);
                 comparison.successor(&code, 1000);
-                let Ok(next) = written(|out| (REFERENCE.successor)(&code, out)) else { break };
-                code = next;
+                comparison.predecessor(&code, 1000);
+            }
+            for code in in_turn(REFERENCE.predecessor, start, 60) {
+                comparison.accept(&code);
+                comparison.predecessor(&code, 1000);
             }
         }
+    }
+}
+
+/// A walk of the engine from a code, which is also that of the reference, and as many steps the other way, which lead through the same codes.
+fn there_and_back(comparison: &mut Comparison, code: &[u8], steps: usize) {
+    let forward = ("successor", ENGINE.successor, REFERENCE.successor);
+    let back = ("predecessor", ENGINE.predecessor, REFERENCE.predecessor);
+    for [(name, step, expected), (other, turned, _)] in [[forward, back], [back, forward]] {
+        let there = in_turn(step, code.to_vec(), steps);
+        let same = there == in_turn(expected, code.to_vec(), steps);
+        comparison.count(name, same, |text| text.push_str(&format!("{} steps are not those of the reference, code {code:?}", there.len() - 1)));
+        let mut returned = in_turn(turned, there[there.len() - 1].clone(), there.len() - 1);
+        returned.reverse();
+        comparison.count(other, returned == there, |text| text.push_str(&format!("{} steps do not lead back, code {code:?}", there.len() - 1)));
+    }
+}
+
+/// Walks there and back: from codes of every kind, of 1,000 steps from 200 points, and from every code of up to 6 points to both ends of the list.
+fn walks(comparison: &mut Comparison, random: &mut Random, rounds: usize) {
+    for (_, kind) in KINDS {
+        there_and_back(comparison, &code_of(&kind(200, random)), 1000);
+        for _ in 0..rounds {
+            there_and_back(comparison, &code_of(&kind(any_count(random), random)), 30 + random.below(60));
+        }
+    }
+    for code in (0..=6).flat_map(codes) {
+        there_and_back(comparison, &code, 1000);
     }
 }
 
@@ -241,7 +274,7 @@ fn pages(comparison: &mut Comparison, random: &mut Random, rounds: usize) {
 fn whole_pages(comparison: &mut Comparison, random: &mut Random) {
     for (_, kind) in KINDS {
         let code = code_of(&kind(200, random));
-        let following = in_turn(&ENGINE, code.clone(), MOST_WANTED).split_off(1);
+        let following = in_turn(ENGINE.successor, code.clone(), MOST_WANTED).split_off(1);
         let (codes, bytes) = (following.len() as i64, following.concat());
         let length = bytes.len();
         let page = (PageReply { codes, bytes: length as i64 }, Some(bytes));
@@ -274,6 +307,7 @@ fn main() -> ExitCode {
     small_pairs(comparison, random);
     kinds(comparison, random, 100);
     steps(comparison, random, 25);
+    walks(comparison, random, 10);
     damaged_codes(comparison, random, 150);
     reordered_codes(comparison, random, 20_000);
     noise(comparison, random, 20_000);

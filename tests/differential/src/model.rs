@@ -2,7 +2,7 @@
 
 use crate::compare::Comparison;
 use sides::maps::is_isomorphism;
-use sides::{written, PageReply, Side, ENGINE, LAST, NONE, REFERENCE};
+use sides::{written, PageReply, Side, ENGINE, FIRST, LAST, NONE, REFERENCE};
 use std::fmt::Write;
 use std::path::Path;
 
@@ -48,13 +48,14 @@ fn answer(side: &Side, entry: usize, room: usize, first: &(usize, Vec<u8>), seco
         4 => (side.code_of_map)(input, &mut out),
         5 => (side.map_of_code)(input, &mut out),
         6 => (side.isomorphism)(input, second, &mut out),
+        8 => (side.predecessor)(input, &mut out),
         _ => panic!("no entry {entry}"),
     };
     out.truncate(reply.max(0) as usize);
     (reply, out)
 }
 
-const NAMES: [&str; 8] = ["", "accept", "first", "successor", "code_of_map", "map_of_code", "isomorphism", "census"];
+const NAMES: [&str; 9] = ["", "accept", "first", "successor", "code_of_map", "map_of_code", "isomorphism", "census", "predecessor"];
 
 /// One line of a file of cases.
 fn case(comparison: &mut Comparison, line: &str) {
@@ -62,7 +63,7 @@ fn case(comparison: &mut Comparison, line: &str) {
     let (entry, room) = (words.number(), words.number());
     let (first, second) = (words.list(), words.list().1);
     let (kind, value) = (words.number(), words.number() as i64);
-    let reply = [value, LAST, NONE, -value][kind];
+    let reply = [value, LAST, NONE, -value, FIRST][kind];
     let expected = (reply, words.list().1);
     for side in [&ENGINE, &REFERENCE] {
         let got = answer(side, entry, room, &first, &second);
@@ -93,19 +94,23 @@ fn pair(comparison: &mut Comparison, line: &str) {
     }
 }
 
-/// A whole listing: a header, numbered codes, the total.
+/// A whole listing: a header, numbered codes, the total. It is also gone through backwards.
 fn listing(comparison: &mut Comparison, n: usize, text: &str) {
     for side in [&ENGINE, &REFERENCE] {
         let mut code = written(|out| (side.first)(n, out));
-        let mut entry = "first";
+        let (mut entry, mut before) = ("first", Err(FIRST));
         for line in text.lines().skip(1) {
             let expected: Result<Vec<u8>, i64> = match line.split_once(": ") {
                 Some((_, numbers)) => Ok(numbers.split(' ').map(|x| x.parse().expect("a byte")).collect()),
                 None => Err(LAST),
             };
             comparison.count(entry, code == expected, |text| write!(text, "{} {code:?}, listing {expected:?}", side.name).unwrap());
+            let Ok(expected) = expected else { break };
+            let back = written(|out| (side.predecessor)(&expected, out));
+            comparison.count("predecessor", back == before, |text| write!(text, "{} {back:?}, listing {before:?}, code {expected:?}", side.name).unwrap());
             entry = "successor";
-            code = expected.and_then(|code| written(|out| (side.successor)(&code, out)));
+            code = written(|out| (side.successor)(&expected, out));
+            before = Ok(expected);
         }
     }
 }
@@ -113,7 +118,7 @@ fn listing(comparison: &mut Comparison, n: usize, text: &str) {
 /// All files of the data.
 pub fn run(comparison: &mut Comparison, data: &Path) {
     let read = |name: &str| std::fs::read_to_string(data.join(name)).expect(name);
-    for name in ["examples", "damaged", "damaged_long", "reordered", "hostile", "rooms", "steps", "codes", "census"] {
+    for name in ["examples", "damaged", "damaged_long", "reordered", "hostile", "rooms", "steps", "steps_back", "codes", "census"] {
         read(name).lines().for_each(|line| case(comparison, line));
     }
     for name in ["pages", "pages_long"] {

@@ -6,7 +6,9 @@ use borrow.Author.Needs.{needs}
 use lib.ListN.{length, getD}
 use Rattle.patterns.specs.System.{System}
 use Rattle.memory.specs.Memory.{Holds}
-use Rattle.bumping.proofs.Scanning.{Scanning, bump-start, bump-same, bump-end, bump-index, bump-size, bump-place, bump-ahead, bump-next, bump-found}
+use Rattle.memory.proofs.FromRight.{Reached}
+use Rattle.bumping.proofs.Turns.{turn-same, turn-index, turn-size, turn-place, turn-ahead}
+use Rattle.bumping.proofs.Scanning.{Scanning, bump-start, bump-reached, bump-end, bump-next, bump-found}
 use Rattle.bumping.proofs.bump.Statement.{statement}
 use Rattle.bumping.proofs.bump.Tie as tie
 
@@ -39,15 +41,20 @@ tried c = lent c .before
 abbrev turn : tie.After-advance Inv-loop μ-loop → At
 turn c = c .before .before .before .before .before .before .before .before
 
+-- how far the search has come
+reached : (c : At) (S : System) → Holds S (now (start c .args .sizes)) (now (start c .args .trees))
+    → Reached S (now (start c .args .sizes)) (c .loop .trees) (c .loop .i) (c .loop .at)
+reached c = bump-reached (start c .pre) (c .loop .inv .3)
+
 index : (c : In) → c .before .loop .i - 1 < length (now (start (c .before) .args .sizes))
-index c = bump-index (start (c .before) .pre) (c .before .loop .inv .3) (omega arith)
+index c = turn-index (start (c .before) .pre) (reached (c .before)) (omega arith)
 
 place : (c : In)
     → c .before .loop .at - getD (now (start (c .before) .args .sizes)) (c .before .loop .i - 1) 0 ≤ length (c .before .loop .trees)
-place c = bump-place (start (c .before) .pre) (c .before .loop .inv .3) (omega arith)
+place c = turn-place (start (c .before) .pre) (reached (c .before)) (omega arith)
 
 loop-holds : tie.Need-loop-holds Inv-loop μ-loop
-loop-holds c = (refl, refl, refl, bump-start (c .before .before .before .before .before .pre))
+loop-holds c = (refl, refl, refl, bump-start)
 
 shared-slice-read-at : tie.Need-shared-slice-read-at Inv-loop μ-loop
 shared-slice-read-at c = index (c .before)
@@ -56,7 +63,7 @@ cast-at : tie.Need-cast-at Inv-loop μ-loop
 cast-at c = omega (arith, c .shared-slice-known2 .given (c .before .before .loop .i - 1))
 
 sub-at : tie.Need-sub-at Inv-loop μ-loop
-sub-at c = let l = c .before .before in bump-size (start l .pre) (l .loop .inv .3) (omega arith)
+sub-at c = let l = c .before .before in turn-size (start l .pre) (reached l) (omega arith)
 
 sub-advance : tie.Need-sub-advance Inv-loop μ-loop
 sub-advance c = omega (arith, index (c .before))
@@ -74,13 +81,13 @@ advance-requires : tie.Need-advance-requires Inv-loop μ-loop
 advance-requires c κs =
     let l = c .before .before .before .before .before .before .before in
     let same = l .loop .inv in
-    bump-ahead (start l .pre) (same .3) (omega arith) _ _ _ (same .0) (same .1) (same .2)
+    turn-ahead (start l .pre) (reached l) (omega arith) _ _ _ (same .0) (same .1) (same .2)
 
 same-length : tie.Need-same-length Inv-loop μ-loop
 same-length c =
     let b = lent (c .before) in
     let l = turn (b .before) in
-    b .trees .given .1 ∙ bump-same (start l .pre) (l .loop .inv .3)
+    b .trees .given .1 ∙ turn-same (start l .pre) (reached l)
 
 same-length-2 : tie.Need-same-length-2 Inv-loop μ-loop
 same-length-2 c = let t = tried (c .before) in t .advance .kept .1 .1 .0 ∙ turn t .loop .inv .0
@@ -95,7 +102,7 @@ returns : tie.Need-returns Inv-loop μ-loop
 returns c =
     let t = tried (c .before) in
     let l = turn t in
-    bump-found (start l .pre) (l .loop .inv .3) (omega arith) _ _ (t .advance .ensures) (c .if1 .taken)
+    λ S h. bump-found (start l .pre) (l .loop .inv .3) (omega arith) _ _ (t .advance .ensures) S h (c .if1 .taken)
 
 loop-again : tie.Need-loop-again Inv-loop μ-loop
 loop-again c =
@@ -103,11 +110,10 @@ loop-again c =
     let l = turn t in
     let same = l .loop .inv in
     let kept = t .advance .kept .1 .1 in
-    let next = bump-next (start l .pre) (same .3) (omega arith) _ _ (t .advance .ensures) (c .if1 .left) in
-    (kept .0 ∙ same .0, kept .1 .0 ∙ same .1, kept .1 .1 .0 ∙ same .2, next)
+    (kept .0 ∙ same .0, kept .1 .0 ∙ same .1, kept .1 .1 .0 ∙ same .2, λ S h. bump-next (start l .pre) (same .3) (omega arith) _ _ (t .advance .ensures) S h (c .if1 .left))
 
 same-length-5 : tie.Need-same-length-5 Inv-loop μ-loop
-same-length-5 c = let l = c .before in bump-same (start l .pre) (l .loop .inv .3)
+same-length-5 c = let l = c .before in turn-same (start l .pre) (reached l)
 
 returns-2 : tie.Need-returns-2 Inv-loop μ-loop
 returns-2 c = let l = c .before in bump-end (start l .pre) (l .loop .inv .3) (omega arith)

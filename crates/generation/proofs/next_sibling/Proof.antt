@@ -1,6 +1,5 @@
 use denote.Ref.{now}
 use mathlib.Core.Path.{sym, _∙_}
-use native.Mathlib.Omega.{arith}
 use borrow.Author.Needs.{needs}
 use Rattle.generation.proofs.Relatives.{climbed-root, Raised, raised, up-node, up-key, beside-next, beside-last}
 use Rattle.generation.proofs.next_sibling.Statement.{statement}
@@ -19,24 +18,26 @@ climb c =
     raised (start call .pre .0) (call .parent .result) (c .key .given .0 .0) (c .key .given .1) (call .parent .last .1 .0)
     (call .parent .kept .1 .0 ∙ start call .pre .2) (call .parent .ensures)
 
-abbrev known : tie.After-scan → tie.After-key
+abbrev known : tie.After-child-beside → tie.After-key
 known c = c .before .before .before .before
 
 returns : tie.Need-returns
 returns c = let call = c .before .before .before .before in λ d e. climbed-root d (call .parent .result) _ (call .parent .ensures d e) (c .enum-told .given .1)
 
-scan-requires : tie.Need-scan-requires
-scan-requires c κs = let key = c .before .before .before in (up-node (climb key), start (called key) .pre .1 ∙ sym (climb key .same))
+child-beside-requires : tie.Need-child-beside-requires
+child-beside-requires c κs = let key = c .before .before .before in (up-node (climb key), start (called key) .pre .1 ∙ sym (climb key .same), up-key (climb key))
 
 returns-2 : tie.Need-returns-2
 returns-2 c =
-    let scan = c .before .before .before in
-    λ d e. beside-next (climb (known scan)) (scan .scan .result) _ (scan .scan .ensures) d e (c .if1 .taken)
+    let found = c .before .before .before in
+    let key = known found in
+    λ d e. beside-next (climb key) (start (called key) .args .forward) (found .child-beside .result) _ (found .child-beside .ensures) d e (c .if1 .taken)
 
 returns-3 : tie.Need-returns-3
 returns-3 c =
-    let scan = c .before .before .before in
-    λ d e. beside-last (climb (known scan)) (scan .scan .result) _ (scan .scan .ensures) d e (c .if1 .left)
+    let found = c .before .before .before in
+    let key = known found in
+    λ d e. beside-last (climb key) (start (called key) .args .forward) (found .child-beside .result) _ (found .child-beside .ensures) d e (c .if1 .left)
 
 pub next-sibling-spec : {M : Type 1} → statement M
 next-sibling-spec =
@@ -47,8 +48,7 @@ next-sibling-spec =
     (λ c. search needs)
     (λ c. search needs)
     returns
-    (λ c. omega (arith, up-key (climb (c .before .before))))
-    scan-requires
+    child-beside-requires
     (λ c. search needs)
     (λ c. search needs)
     returns-2

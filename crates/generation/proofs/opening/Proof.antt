@@ -16,13 +16,15 @@ returns c =
     let start = at-first-child .before .before .before .before in
     let none-there = not-of-true (at-first-child .first-child .result) (at-if1 .if1 .taken) in
     (λ d e.
-    at-copy .copy .ensures .1 ∙ copied (now (start .args .s)) _ (at-first-child .first-child .kept .1 .0 ∙ start .pre .1) ∙ e
-    ∙ sym (ap flat (opening-self d (at-first-child .first-child .result) _ (at-first-child .first-child .ensures d e) none-there)))
+    at-copy .copy .ensures .1 ∙ copied (now (start .args .s)) _ (at-first-child .first-child .kept .1 .1 .0 ∙ start .pre .1) ∙ e
+    ∙ sym (ap flat (opening-self (start .args .forward) d (at-first-child .first-child .result) _ (at-first-child .first-child .ensures d e) none-there)))
 
 returns-2 : tie.Need-returns-2
 returns-2 c =
-    let one-there = not-of-false (c .before .before .before .first-child .result) (c .if1 .left) in
-    (λ d e. opening-child d (c .before .before .before .first-child .result) _ (c .before .before .before .first-child .ensures d e) one-there)
+    let at-first-child = c .before .before .before in
+    let start = at-first-child .before .before .before .before in
+    let one-there = not-of-false (at-first-child .first-child .result) (c .if1 .left) in
+    (λ d e. opening-child (start .args .forward) d (at-first-child .first-child .result) _ (at-first-child .first-child .ensures d e) one-there)
 
 pub opening-spec : {M : Type 1} → statement M
 opening-spec =

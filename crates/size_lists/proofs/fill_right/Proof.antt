@@ -4,12 +4,13 @@ use Prim.Native.Nat.{_-_}
 use native.Mathlib.Omega.{arith}
 use borrow.Author.Needs.{needs}
 use lib.ListN.{length}
-use Rattle.size_lists.proofs.Filling.{Filling, filling-start, filling-fits, filling-next, filling-end}
+use Rattle.size_lists.specs.SizesHeld.{fillTrees}
+use Rattle.size_lists.proofs.Filling.{length-fill, Filling, filling-start, filling-fits, filling-next, filling-end}
 use Rattle.size_lists.proofs.fill_right.Statement.{statement}
 use Rattle.size_lists.proofs.fill_right.Tie as tie
 
 abbrev Inv-loop : tie.InvT-loop
-Inv-loop d sizes trees₀ i₀ at₀ trees i at = Filling d sizes trees i at
+Inv-loop d sizes trees₀ i₀ at₀ trees i at = Filling (fillTrees d) sizes trees i at
 
 abbrev μ-loop : tie.MeasureT-loop
 μ-loop d sizes trees₀ i₀ at₀ trees i at = length sizes - i
@@ -18,7 +19,7 @@ loop-holds : tie.Need-loop-holds Inv-loop μ-loop
 loop-holds c =
     let start = c .before .before .before in
     let a = start .args in
-    filling-start (now (a .d)) (now (a .sizes)) (now (a .trees)) (start .pre)
+    filling-start (length-fill (now (a .d))) (now (a .sizes)) (now (a .trees)) (start .pre)
 
 cast-end : tie.Need-cast-end Inv-loop μ-loop
 cast-end c = omega (arith, c .shared-slice-known3 .given (c .before .before .loop .i))

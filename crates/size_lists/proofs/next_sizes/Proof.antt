@@ -2,7 +2,6 @@ use denote.Ref.{now}
 use Prim.Native.Nat.{_+_, _-_}
 use native.Mathlib.Omega.{arith}
 use borrow.Author.Needs.{needs}
-use lib.ListN.{length}
 use Rattle.size_lists.proofs.Growing.{Growing, next-short, growing-start, growing-next, growing-end}
 use Rattle.size_lists.proofs.next_sizes.Statement.{statement}
 use Rattle.size_lists.proofs.next_sizes.Tie as tie

@@ -1,8 +1,19 @@
+use mathlib.Core.Path.{ap, sym, _∙_}
+use mathlib.Core.List.{map}
 use native.Mathlib.Omega.{arith}
-use Rattle.stepping.proofs.Stepping.{step-count, step-held, step-room, step-same, step-ends, step-cycles}
+use lib.ListN.{take, replicate}
+use Rattle.system_theory.specs.Step.{nextSizes, cycle, bump, step}
+use Rattle.system_theory.proofs.Step.{step-keeps}
+use Rattle.system_theory.proofs.StepScan.{step-bump, step-sizes, step-none}
+use Rattle.size_lists.proofs.Filling.{flat-cycles, cycles-points}
+use Rattle.stepping.proofs.Stepping.{Parts, Other, step-count, step-held, step-room, step-same, step-ends, step-other, other-sum, step-filled}
 use borrow.Author.Needs.{needs}
 use Rattle.stepping.proofs.next_system.Statement.{statement}
 use Rattle.stepping.proofs.next_system.Tie as tie
+
+-- the step forward
+forward : Parts step bump nextSizes (map cycle)
+forward = record { within = step-bump; beyond = step-sizes; over = step-none; keeps = step-keeps; fits = cycles-points }
 
 -- The places at which something is learnt: the start, the search for a component with a successor, the next size list. Later places lead down to them.
 abbrev start : tie.After-slice-known5 → tie.Start
@@ -24,7 +35,7 @@ bump-requires : tie.Need-bump-requires
 bump-requires c κs = step-held (start (c .before .before .before .before .before) .pre)
 
 returns : tie.Need-returns
-returns c = let b = tried (c .before) in step-same (begun b .pre) (b .bump .result) _ (b .bump .ensures) (c .if1 .taken)
+returns c = let b = tried (c .before) in step-same (begun b .pre) forward (b .bump .result) _ (b .bump .ensures) (c .if1 .taken)
 
 next-sizes-requires : tie.Need-next-sizes-requires
 next-sizes-requires c κs = step-room (begun (tried (c .before .before)) .pre)
@@ -34,15 +45,25 @@ returns-2 c =
     let n = c .before .before .before in
     let e = none-found n in
     let b = tried (e .before) in
-    step-ends (begun b .pre) (b .bump .result) _ (b .bump .ensures) (e .if1 .left) (n .next-sizes .result) _ (n .next-sizes .ensures) (c .if2 .taken) _
+    step-ends (begun b .pre) forward (b .bump .result) _ (b .bump .ensures) (e .if1 .left) (n .next-sizes .result) _ (n .next-sizes .ensures) (c .if2 .taken) _
+
+-- the next size list
+other : (c : tie.Else2) → let n = c .before .before .before in
+    Other (begun (tried (none-found n .before)) .pre) step (map cycle) (n .next-sizes .result) (n .next-sizes .last .0) (tried (none-found n .before) .bump .last .1 .0)
+other c =
+    let n = c .before .before .before in
+    let e = none-found n in
+    let b = tried (e .before) in
+    step-other (begun b .pre) forward (b .bump .result) _ (b .bump .ensures) (e .if1 .left) (n .next-sizes .result) _ (n .next-sizes .ensures) (λ z. omega arith) (b .bump .kept .1 .0)
 
 returns-3 : tie.Need-returns-3
 returns-3 c =
     let all = c .before .before in
-    let n = all .before .before .before .before .before in
-    let e = none-found n in
-    let b = tried (e .before) in
-    step-cycles (begun b .pre) (b .bump .result) _ (b .bump .ensures) (e .if1 .left) (n .next-sizes .result) _ (n .next-sizes .ensures) (λ z. omega arith) (b .bump .kept .1 .0) _ (all .set-all .ensures)
+    let t = all .before .before in
+    let n = t .before .before .before .next-sizes in
+    let w = begun (tried (none-found (t .before .before .before) .before)) .pre in
+    step-filled w forward (other t) _
+    (all .set-all .ensures ∙ ap (λ j. replicate j 1) (sym (other-sum w forward (other t))) ∙ sym (flat-cycles (take (n .result) (n .last .0))))
 
 pub next-system-spec : {M : Type 1} → statement M
 next-system-spec =

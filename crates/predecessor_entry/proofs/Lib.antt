@@ -1,0 +1,2 @@
+-- The laws that the entry cites.
+pub mod PreviousPut
