@@ -5,13 +5,14 @@ use mathlib.Core.Bool.{Bool, true, false}
 use mathlib.Core.List.{List, reverse}
 use mathlib.Core.Option.{some}
 use Prim.Native.Nat.{ℕ}
+use Rattle.lists.specs.Select.{next, previous}
 use Rattle.lists.proofs.Follow.{Within}
-use Rattle.patterns.specs.Component.{Component, points, validComponent}
+use Rattle.patterns.specs.Component.{Component, points, compareComponent, validComponent}
 use Rattle.patterns.specs.Generation.{children, walk, cycle, generation}
 use Rattle.component_theory.specs.Successor.{kids, neighbour, successor, predecessor}
 use Rattle.component_theory.proofs.Traversal.{reverse-walk}
 use Rattle.component_theory.proofs.Generation.{Arranged, children-arranged, reverse-arranged}
-use Rattle.component_theory.proofs.LocalStep.{stepIn-within, stepIn-valid}
+use Rattle.component_theory.proofs.LocalStep.{stepIn-within, stepIn-is, stepIn-valid}
 
 pub kids-arranged : (forward : Bool) → Arranged (kids forward)
 unfolding kids
@@ -39,8 +40,20 @@ pub neighbour-valid : (forward : Bool) (c d : Component) → validComponent c �
 unfolding neighbour
 neighbour-valid forward = stepIn-valid (kids-arranged forward) forward
 
+-- so it is what `next` finds there
+neighbour-is : (forward : Bool) (c : Component) → validComponent c ≡ true → next compareComponent c (generationIn forward (points c)) ≡ neighbour forward c
+unfolding neighbour
+neighbour-is forward c v = rw (← walk-in forward (points c)) (stepIn-is (kids-arranged forward) forward c v)
+
 pub successor-within : (c : Component) → validComponent c ≡ true → Within c (generation (points c)) (successor c)
 successor-within = neighbour-within true
 
 pub predecessor-within : (c : Component) → validComponent c ≡ true → Within c (reverse (generation (points c))) (predecessor c)
 predecessor-within = neighbour-within false
+
+-- what follows a valid component in the generation list is its successor, and what stands before it its predecessor
+pub successor-is : (c : Component) → validComponent c ≡ true → next compareComponent c (generation (points c)) ≡ successor c
+successor-is = neighbour-is true
+
+pub predecessor-is : (c : Component) → validComponent c ≡ true → previous compareComponent c (generation (points c)) ≡ predecessor c
+predecessor-is = neighbour-is false

@@ -1,7 +1,6 @@
 -- A list reversed: it has the same entries, mapped and gathered lists are reversed piece by piece, and what follows an entry in it is what stands before it in the list.
 use mathlib.Core.Path.{_≡_, refl, ap, sym, _∙_, subst}
-use mathlib.Core.List.{List, [], _∷_, _++_, map, reverse, reverse-cons, reverse-append, reverse-reverse, append-assoc, append-nil}
-use mathlib.Mathlib.Data.List.Basic.{map-reverseAux}
+use mathlib.Core.List.{List, [], _∷_, _++_, map, map-append, reverse, reverse-cons, reverse-append, reverse-reverse, append-assoc, append-nil}
 use mathlib.Core.Bool.{cond}
 use mathlib.Core.Option.{Option, none, some, Option·map}
 use Prim.Native.Nat.{Ordering}
@@ -100,7 +99,12 @@ module _ {A : Type 0} where
 
 module _ {A B : Type 0} where
   reverse-map : (f : A → B) (l : List A) → reverse (map f l) ≡ map f (reverse l)
-  reverse-map f l = sym (map-reverseAux f l [])
+  reverse-map f [] = refl
+  reverse-map f (x ∷ l) =
+      reverse-cons (f x) (map f l)
+      ∙ ap (λ k. k ++ (f x ∷ [])) (reverse-map f l)
+      ∙ sym (map-append f (reverse l) (x ∷ []))
+      ∙ ap (map f) (sym (reverse-cons x l))
 
   pub last-map : (f : A → B) (l : List A) → first (reverse (map f l)) ≡ Option·map f (first (reverse l))
   last-map f l = ap first (reverse-map f l) ∙ first-map f (reverse l)
