@@ -3,8 +3,9 @@ use mathlib.Core.Path.{_≡_, refl}
 use mathlib.Core.Bool.{true, false}
 use mathlib.Core.List.{List, [], _∷_}
 use lib.ListN.{replicate}
-use Rattle.patterns.specs.Entry.{begins, lacks, firstOf, successorOf}
-use Rattle.patterns.specs.Calls.{fresh, wrote, Call, entry, said-last, said-first, said-none, refusal, CallsBy, no-buffer, writes, says-last, says-first, says-none, refuses, Calls, entries, ended, roomy}
+use Rattle.patterns.specs.declared.Refusal.the-variants.{Count}
+use Rattle.patterns.specs.Entry.{gives, ends, begins, lacks, fails, firstOf, successorOf}
+use Rattle.patterns.specs.Calls.{fresh, wrote, Call, entry, said-last, said-first, said-none, refusal, CallsBy, no-buffer, writes, says-last, says-first, says-none, refuses, Calls, entries, ended, roomy, result}
 
 -- the list of one point has one code; after "last" no call is made
 pub calls-of-one-point :
@@ -46,3 +47,12 @@ pub read-off :
     × (ended (some-calls (refusal 8 [])) ≡ false)
     × (roomy (replicate 1000 7 ∷ replicate 999 7 ∷ replicate 1001 7 ∷ []) ≡ 2)
 read-off = (refl, refl, refl, refl, refl, refl, refl, refl, refl, refl)
+
+-- what is written where there is room: a result, and without one nothing
+pub results :
+    (result (gives (1 ∷ 2 ∷ [])) ≡ 1 ∷ 2 ∷ [])
+    × (result ends ≡ [])
+    × (result begins ≡ [])
+    × (result lacks ≡ [])
+    × (result (fails Count) ≡ [])
+results = (refl, refl, refl, refl, refl)
