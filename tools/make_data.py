@@ -278,6 +278,86 @@ def hostile():
     return lines
 
 
+# ---- codes at each keystroke
+
+
+def typed(code, ends, others=(0, 127, 128, 255)):
+    """The code up to each of these ends, as it is while it is typed, and with another byte after it. The next two bytes stand in the text too, behind the end, where
+    one who reads too far finds them."""
+    lines = []
+    for end in ends:
+        lines.append(accept(code[: end + 2], end))
+        lines += [accept(code[:end] + [byte] + code[end + 1 : end + 3], end + 1) for byte in others]
+    return lines
+
+
+def typed_small():
+    codes = [[0, 0], [1, 1, 1, 1], [3, 1, 1, 3, 2, 1], [3, 3, 1, 1, 1, 1, 1, 1], [7, 2, 1, 3, 2, 1, 3, 1, 1, 2, 1], [8, 3, 2, 1, 1, 1, 3, 2, 1, 2, 1, 2, 1]]
+    return [line for code in codes for line in typed(code, range(len(code) + 1))]
+
+
+def chain(top, bottom):
+    """A path of trees of falling sizes, and at its end a star."""
+    return tuple(range(top, bottom - 1, -1)) + (1,) * (bottom - 1)
+
+
+def two_bytes(code):
+    """The places at which numbers of two bytes begin in a code."""
+    return [i for i, x in enumerate(code) if x > 127]
+
+
+def typed_long():
+    """Codes with numbers of two bytes, at even and odd places, near the start and further on: ends before, inside and behind each of these, and some others."""
+    one = model.cycle(1)
+    systems = [[(chain(131, 128),)], [one + (chain(199, 195),)], [one, (chain(199, 196),)], [one] * 200, [model.cycle(200)]]
+    systems += [[one] * 4 + [model.cycle(196)], [one * 20 + (chain(180, 177),)]]
+    lines = []
+    for i, system in enumerate(systems):
+        code = model.written(system)
+        assert accept(code)[-4:-2] == [0, sum(map(model.points, system))], code
+        lines += typed(code, sorted({0, 1} | {start + past for start in two_bytes(code) for past in range(3)}))
+        lines += typed(code, (len(code) - 1,), ()) + typed(code, (len(code),), ((0, 127, 128, 255)[i % 4],))
+    path = model.code_of_map(path_map(200), WIDE)[1]
+    return lines + [line for start in two_bytes(path)[2::18] for line in typed(path, range(start, start + 3), ())]
+
+
+def number_sequences():
+    """Numbers of two bytes at the bounds, alone and behind the start of a code, with a good end, an open one and a wrong one; long sequences cut at any place."""
+    bounds = [[128, 1], [255, 127], [128, 127], [255, 1]]
+    ends = [[], [1], [128], [255], [128, 0], [255, 0], [128, 128], [255, 255]]
+    runs = bounds + [a + b for a in bounds for b in bounds]
+    lines = [accept(front + run + end) for front in ([], [200, 1, 1]) for run in runs for end in (ends if len(run) == 2 else ends[::2])]
+    pattern = [1, 200, 1, 255, 127, 3, 128, 1]
+    return lines + [accept(pattern, length) for start in (8, 400, 9992) for length in range(start, start + 9)]
+
+
+def first_faults():
+    """A fault behind good numbers, and another one behind it: the first decides, and before all that the numbers say."""
+    fronts = [[], [3], [200, 1], [3, 1, 3, 1, 1, 1], [201, 1], [0, 1]]
+    faults = [[129, 0], [128, 128], [255, 255]]
+    starts = [front + fault + between for front in fronts for fault in faults for between in ([], [1], [128, 1])]
+    return [accept(start + other) for start in starts for other in faults[:2] + [[128], [255]]]
+
+
+def other_groups():
+    """Codes with a number in whose place stand two bytes from which the number could come: one of the groups lost or both exchanged, or 256 too much."""
+    lines = []
+    for code in ([0, 0], [1, 1, 1, 1], [3, 1, 1, 3, 2, 1], [3, 1, 3, 1, 1, 1], [8, 3, 2, 1, 1, 1, 3, 2, 1, 2, 1, 2, 1]):
+        for i, x in enumerate(code):
+            lines += [accept(code[:i] + other + code[i + 1 :]) for other in ([128 + x, 1], [128, x], [128 + x, 2])]
+    for shape in (star(128), cycle_map(128)):
+        code = model.code_of_map(shape, WIDE)[1]
+        lines += [accept(code[:i] + other + code[i + 2 :]) for i in two_bytes(code) for other in ([129, 1], [255, 1], [128, 2], [128, 127])]
+    assert all(line[-4] == KINDS["refused"] for line in lines)
+    return lines
+
+
+def keystrokes():
+    lines = typed_small() + typed_long() + number_sequences() + first_faults() + other_groups()
+    assert {line[-3] for line in lines if line[-4] == KINDS["refused"]} == {1, 3, 4, 5, 7}
+    return [list(line) for line in dict.fromkeys(map(tuple, lines))]
+
+
 # ---- rooms and refusals
 
 
@@ -605,7 +685,7 @@ def main():
     os.makedirs(MADE, exist_ok=True)
     files = [(f"listing_{n}", [[line] for line in plain_listing.listing(n)]) for n in range(9)]
     files += [("examples", examples()), ("damaged", damaged()), ("damaged_long", damaged_long()), ("reordered", reordered()), ("hostile", hostile())]
-    files += [("rooms", rooms()), ("steps", steps()), ("steps_back", steps_back()), ("codes", codes_of_maps()), ("census", censuses())]
+    files += [("keystrokes", keystrokes()), ("rooms", rooms()), ("steps", steps()), ("steps_back", steps_back()), ("codes", codes_of_maps()), ("census", censuses())]
     files += [("components", components()), ("pages", pages()), ("pages_long", pages_long()), ("pairs", pairs())]
     other = sum(not save(name, lines) for name, lines in files)
     print(f"{len(files)} files in {os.path.relpath(MADE)}, {other} not as in crates/checks/data")

@@ -78,6 +78,7 @@ fn main() {
     table("Code of a map of 200 points", work::codes());
     table("Isomorphism of two maps of 200 points", work::isomorphisms());
     table("Census of a map of 200 points", work::censuses());
+    table("Accept, on codes of 200 points and on other bytes", work::acceptances());
     table("Other entries on random maps of 200 points", work::others());
     if let Some(file) = std::env::args().nth(1) {
         labelg::table(file.as_ref());

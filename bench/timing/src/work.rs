@@ -217,10 +217,65 @@ fn equal<T>(_: &T, [engine, reference]: [&Result<Vec<u8>, i64>; 2]) -> bool {
 /// The rest of the entries.
 pub fn others() -> Vec<Work> {
     let codes: Vec<Vec<u8>> = tables(KINDS[0], 100).iter().map(|table| code_of(table)).collect();
+    vec![calls("map of a code", codes, |side, code, out| (side.map_of_code)(code, out), equal)]
+}
+
+/// Accept of each of these, good or bad. A call is short, so they are gone through again until there are a thousand. The number of points is compared too.
+fn accepts(name: &str, codes: Vec<Vec<u8>>) -> Work {
+    let times = 1000_usize.div_ceil(codes.len());
+    let once = calls(name, codes, |side, code, _| (side.accept)(code), equal);
+    Work { calls: once.calls * times, run: Box::new(move |side| (0..times).map(|_| (once.run)(side)).fold(0, u64::wrapping_add)), ..once }
+}
+
+/// The length of a hostile input.
+const HOSTILE: usize = 10_000;
+
+/// So many bytes that are numbers of one byte and of two, by chance.
+fn numbers(length: usize, random: &mut Random) -> Vec<u8> {
+    let mut bytes = Vec::new();
+    while bytes.len() < length {
+        if bytes.len() + 1 == length || random.below(2) == 0 {
+            bytes.push(random.below(128) as u8);
+        } else {
+            bytes.extend([128 + random.below(128) as u8, 1 + random.below(127) as u8]);
+        }
+    }
+    bytes
+}
+
+/// Inputs of numbers by chance and then these bytes. Of one alone the processor would learn the forms by heart.
+fn numbers_before(end: &[u8], random: &mut Random) -> Vec<Vec<u8>> {
+    (0..20).map(|_| [&numbers(HOSTILE - end.len(), random), end].concat()).collect()
+}
+
+/// Inputs in which all bytes have to be looked at before the reply is known.
+fn hostile() -> Vec<(&'static str, Vec<Vec<u8>>)> {
+    let random = &mut Random::new(3);
+    let mut longer = code_of(&tables(KINDS[0], 1)[0]);
+    longer.resize(HOSTILE, 1);
     vec![
-        calls("accept", codes.clone(), |side, code, _| (side.accept)(code).min(0), equal),
-        calls("map of a code", codes, |side, code, out| (side.map_of_code)(code, out), equal),
+        ("10,000 bytes: 10,000 numbers of one byte", vec![vec![1; HOSTILE]]),
+        ("10,000 bytes: 5,000 numbers of two bytes", vec![[255, 127].repeat(HOSTILE / 2)]),
+        ("10,000 bytes: a code of 200 points, and 1s behind it", vec![longer]),
+        ("10,000 bytes: numbers of one byte and of two, by chance", numbers_before(&[], random)),
+        ("10,000 bytes: such numbers, the last one open", numbers_before(&[200], random)),
+        ("10,000 bytes: such numbers, the last one with a second byte 0", numbers_before(&[200, 0], random)),
     ]
+}
+
+/// A code as it is while it is typed, from no byte to all.
+fn keystrokes(kind: Kind) -> Work {
+    let code = code_of(&tables(kind, 1)[0]);
+    accepts(&format!("keystrokes: {}", kind.0), (0..=code.len()).map(|end| code[..end].to_vec()).collect())
+}
+
+/// Codes of each kind of map, hostile inputs, and the keystrokes of a code that has few numbers of two bytes and of one that has many.
+pub fn acceptances() -> Vec<Work> {
+    let whole = |kind: Kind| accepts(kind.0, tables(kind, 100).iter().map(|table| code_of(table)).collect());
+    let mut works: Vec<Work> = KINDS.into_iter().map(whole).collect();
+    works.extend(hostile().into_iter().map(|(name, inputs)| accepts(name, inputs)));
+    works.extend(KINDS.into_iter().filter(|kind| ["random", "path"].contains(&kind.0)).map(keystrokes));
+    works
 }
 
 /// The rows of a census, lengths in the first half of the output and counts in the other.

@@ -18,6 +18,7 @@ fn run_refusals() {
     run_file(b"damaged_long", b"damaged codes of two-byte numbers");
     run_file(b"reordered", b"codes out of order");
     run_file(b"hostile", b"hostile inputs");
+    run_file(b"keystrokes", b"codes at each keystroke");
 }
 
 fn run_answers() {

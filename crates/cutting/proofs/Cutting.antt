@@ -1,131 +1,88 @@
--- Cutting bytes into numbers, left to right: what the number at a place says about the cut of all bytes, what has been cut before a place, and how great
--- a number can be.
+-- Cutting bytes into numbers in one pass: what a step tells, how great a number can be, what is known after each byte, and what that says at the end.
 use mathlib.Core.Path.{_≡_, refl, ap, sym, _∙_, subst}
-use mathlib.Core.Bool.{Bool, true, false, _||_, true≢false}
+use mathlib.Core.Bool.{_||_}
 use mathlib.Core.List.{List, [], _∷_, _++_, append-nil}
-use Prim.Native.Nat.{ℕ, suc, _+_, _-_, _*_, _≤_, _<_}
+use Prim.Native.Nat.{ℕ, zero, suc, _+_, _-_, _*_, _≤_, _<_}
 use native.Mathlib.Omega.{arith}
 use lib.Dec.{ltb, leb, eqb}
-use lib.ListN.{length, drop, getD, set, length-append, length-drop, length-set, drop-of-length-le}
-use lib.Seq.{drop-cons, drop-drop, take-all, take-append-le, take-nil, set-at, append-snoc, getD-drop}
-use borrow.Author.Tests.{lt-ltb, le-ltb, le-leb, lt-leb, ne-eqb, leb-false}
+use lib.ListN.{length, take, drop, getD, set, length-append, length-set, length-take, drop-of-length-le}
+use lib.Seq.{drop-cons, take-all, take-append-le, take-nil, set-at, set-out, append-snoc}
+use borrow.Author.Tests.{lt-ltb, le-ltb, le-leb, lt-leb, ne-eqb, ltb-true, ltb-false, leb-false}
 use Rattle.lists.proofs.Tests.{by-test, clash}
-use Rattle.lists.proofs.Places.{drop-one}
 use Rattle.patterns.specs.declared.Refusal.{Refusal}
 use Rattle.patterns.specs.declared.Refusal.the-variants.{Truncated, NumberForm}
-use Rattle.patterns.specs.Reading.{Result, done, fault, mapped, cut}
+use Rattle.patterns.specs.Reading.{Result, done, fault, cut}
+use Rattle.patterns.specs.OnePass.{Known, whole, begun, broken, cutStep, going, stopped, scanned, scanStep, scan, scanEnd}
+use Rattle.form_theory.proofs.Results.{or-false}
+use Rattle.form_theory.proofs.OnePass.{scan-next, prefix-fault, prefix-end}
 use Rattle.cutting.specs.declared.Cut.{Cut}
 use Rattle.cutting.specs.declared.Cut.the-variants.{Number, Refused}
-use Rattle.cutting.specs.Cutting.{headCut, cutReply, stored, CutInto}
+use Rattle.cutting.specs.Cutting.{stepReply, cutReply, stored, CutInto}
 
--- The number at a place, by what its bytes are.
+-- A step, by what its byte is.
 
-drop-two : (s : List ℕ) (i : ℕ) → i + 1 < length s → drop i s ≡ getD s i 0 ∷ getD s (i + 1) 0 ∷ drop (i + 2) s
-drop-two s i h =
-    let e : i + 1 + 1 ≡ i + 2 = omega arith in
-    rw (drop-one 0 s i (omega arith), drop-one 0 s (i + 1) h, e)
+-- a first byte below 128 is a number
+pub first-low : (x p v : ℕ) → p ≡ 0 → x < 128 → cutStep x p v ≡ whole x
+first-low x zero v q h = rw (lt-ltb x 128 h)
+first-low x (suc p) v q h = absurd (omega arith)
 
--- a byte below 128 is a number
-pub head-one : (s : List ℕ) (at : ℕ) → at < length s → getD s at 0 < 128 → headCut at (drop at s) ≡ Number (getD s at 0) (at + 1)
-head-one s at h k = rw (drop-one 0 s at h) (below at (getD s at 0) (drop (at + 1) s) k)
-  where
-    below : (at x : ℕ) (l : List ℕ) → x < 128 → headCut at (x ∷ l) ≡ Number x (at + 1)
-    below at x [] k = rw (lt-ltb x 128 k)
-    below at x (y ∷ l) k = rw (lt-ltb x 128 k)
+-- from 128 on it has the low group of one that goes on
+pub first-high : (x p v : ℕ) → p ≡ 0 → 128 ≤ x → cutStep x p v ≡ begun (x - 128)
+first-high x zero v q h = rw (le-ltb x 128 h)
+first-high x (suc p) v q h = absurd (omega arith)
 
--- a byte from 128 on is not the last
-pub head-ended : (s : List ℕ) (at : ℕ) → at < length s → 128 ≤ getD s at 0 → length s ≤ at + 1 → headCut at (drop at s) ≡ Refused Truncated
-head-ended s at h k e = rw (drop-one 0 s at h, drop-of-length-le s {i = at + 1} e, le-ltb (getD s at 0) 128 k)
-
--- after it the second byte is neither 0 ..
-pub head-zero : (s : List ℕ) (at : ℕ) → at + 1 < length s → 128 ≤ getD s at 0 → getD s (at + 1) 0 ≡ 0 → headCut at (drop at s) ≡ Refused NumberForm
-head-zero s at h k e = rw (drop-two s at h, le-ltb (getD s at 0) 128 k, e)
+-- a second byte is neither 0 ..
+pub second-zero : (x p v : ℕ) → 0 < p → x ≡ 0 → cutStep x p v ≡ broken NumberForm
+second-zero x zero v q e = absurd (omega arith)
+second-zero x (suc p) v q e = rw e
 
 -- .. nor 128 or more
-pub head-high : (s : List ℕ) (at : ℕ) → at + 1 < length s → 128 ≤ getD s at 0 → 128 ≤ getD s (at + 1) 0 → headCut at (drop at s) ≡ Refused NumberForm
-head-high s at h k e =
-    rw (drop-two s at h, le-ltb (getD s at 0) 128 k, le-leb 128 (getD s (at + 1) 0) e, ne-eqb (getD s (at + 1) 0) 0 (λ z. omega arith))
+pub second-high : (x p v : ℕ) → 0 < p → 128 ≤ x → cutStep x p v ≡ broken NumberForm
+second-high x zero v q h = absurd (omega arith)
+second-high x (suc p) v q h = rw (le-leb 128 x h, ne-eqb x 0 (λ e. omega arith))
 
--- low seven bits plus 128, then the rest
-pub head-two : (s : List ℕ) (at : ℕ) → at + 1 < length s → 128 ≤ getD s at 0 → 0 < getD s (at + 1) 0 → getD s (at + 1) 0 < 128
-    → headCut at (drop at s) ≡ Number (getD s at 0 - 128 + getD s (at + 1) 0 * 128) (at + 2)
-head-two s at h k p e =
-    rw (drop-two s at h, le-ltb (getD s at 0) 128 k, lt-leb 128 (getD s (at + 1) 0) e, ne-eqb (getD s (at + 1) 0) 0 (λ z. omega arith))
+-- it has the high group
+pub second-low : (x p v : ℕ) → 0 < p → 0 < x → x < 128 → cutStep x p v ≡ whole (v + x * 128)
+second-low x zero v q k h = absurd (omega arith)
+second-low x (suc p) v q k h = rw (lt-leb 128 x h, ne-eqb x 0 (λ e. omega arith))
 
--- What it says about the cut of all bytes from there on.
-abbrev Continues : ℕ → List ℕ → Cut → Type 0
-Continues at l (Number x next) = (at < next) × (next ≤ at + length l) × (cut l ≡ mapped (x ∷_) (cut (drop (next - at) l)))
-Continues at l (Refused c) = cut l ≡ fault c
+-- What the reply of a step tells.
 
-continues : (at : ℕ) (l : List ℕ) → 0 < length l → Continues at l (headCut at l)
-unfolding cut
-continues at [] h = absurd (omega arith)
-continues at (x ∷ []) h =
-    let e : at + 1 - at ≡ 1 = omega arith in
-    by-test (ltb x 128)
-    (λ t. rw t (omega arith, omega arith, rw (e, t)))
-    (λ t. rw t (rw t))
-continues at (x ∷ y ∷ l) h =
-    let e : at + 1 - at ≡ 1 = omega arith in
-    let f : at + 2 - at ≡ 2 = omega arith in
-    by-test (ltb x 128)
-    (λ t. rw t (omega arith, omega arith, rw (e, t)))
-    (λ t.
-    by-test (eqb y 0 || leb 128 y)
-    (λ u. rw (t, u) (rw (t, u)))
-    (λ u. rw (t, u) (omega arith, omega arith, rw (f, t, u))))
+ended-told : (k : Known) (v : ℕ) → Number v 0 ≡ stepReply k → k ≡ whole v
+ended-told (whole n) v e = cc
+ended-told (begun n) v e = clash cc
+ended-told (broken c) v e = clash cc
 
-module _ (s : List ℕ) (at : ℕ) (h : at < length s) where
-  -- a number: it comes first, and the cut goes on at the place after it
-  pub cut-number : (x next : ℕ) → headCut at (drop at s) ≡ Number x next
-      → (at < next) × (next ≤ length s) × (cut (drop at s) ≡ mapped (x ∷_) (cut (drop next s)))
-  cut-number x next e =
-      let d : length (drop at s) ≡ length s - at = simp length-drop in
-      let r = subst (Continues at (drop at s)) e (continues at (drop at s) (omega arith)) in
-      let p : at + (next - at) ≡ next = omega (arith, r .0) in
-      (r .0, omega (arith, r .1), rw (drop-drop, p) at (r .2))
+open-told : (k : Known) (v next : ℕ) → Number v next ≡ stepReply k → 0 < next → (k ≡ begun v) × (next ≡ 1)
+open-told (whole n) v next e h = let z : next ≡ 0 = cc in absurd (omega arith)
+open-told (begun n) v next e h = (cc, cc)
+open-told (broken c) v next e h = clash cc
 
-  -- a refusal: all bytes from there on are refused for its cause
-  pub cut-refused : (c : Refusal) → headCut at (drop at s) ≡ Refused c → cut (drop at s) ≡ fault c
-  cut-refused c e =
-      let d : length (drop at s) ≡ length s - at = simp length-drop in
-      subst (Continues at (drop at s)) e (continues at (drop at s) (omega arith))
+refusal-told : (k : Known) (c : Refusal) → Refused c ≡ stepReply k → k ≡ broken c
+refusal-told (whole n) c e = clash cc
+refusal-told (begun n) c e = clash cc
+refusal-told (broken d) c e = cc
 
--- How great a number can be: below 16,384, since bytes are below 256.
+-- How great a number can be, from a byte below 256: as a whole below 16,384, and its beginning below 128.
+abbrev Small : ℕ → Known → Type 0
+Small p (whole n) = n < 16384
+Small p (begun v) = (v < 128) × (p ≡ 0)
+Small p (broken c) = Unit {0}
 
--- the second byte of a number of two
-second-low : (y : ℕ) → (eqb y 0 || leb 128 y) ≡ false → y < 128
-second-low y e = leb-false 128 y (right (eqb y 0) (leb 128 y) e)
-  where
-    right : (a b : Bool) → (a || b) ≡ false → b ≡ false
-    right true b e = absurd (true≢false e)
-    right false b e = e
+small : (x p v : ℕ) → x < 256 → v < 128 → Small p (cutStep x p v)
+small x zero v h k = by-test (ltb x 128) (λ t. rw t (omega (arith, ltb-true x 128 t))) (λ t. rw t (omega arith, refl))
+small x (suc p) v h k =
+    by-test (eqb x 0 || leb 128 x)
+    (λ t. rw t tt)
+    (λ t. rw t (omega (arith, leb-false 128 x ((or-false (eqb x 0) (leb 128 x) t) .1))))
 
-abbrev Small : Cut → Type 0
-Small (Number x next) = x < 16384
-Small (Refused c) = Unit {0}
-
-small : (at : ℕ) (l : List ℕ) → ((i : ℕ) → getD l i 0 < 256) → Small (headCut at l)
-small at [] b = tt
-small at (x ∷ []) b = by-test (ltb x 128) (λ t. rw t (omega (arith, b 0))) (λ t. rw t tt)
-small at (x ∷ y ∷ l) b =
-    by-test (ltb x 128)
-    (λ t. rw t (omega (arith, b 0)))
-    (λ t.
-    by-test (eqb y 0 || leb 128 y)
-    (λ u. rw (t, u) tt)
-    (λ u. rw (t, u) (omega (arith, b 0, second-low y u))))
-
--- the number at a place
-pub number-small : (s : List ℕ) (at x next : ℕ) → ((i : ℕ) → getD s i 0 < 256) → headCut at (drop at s) ≡ Number x next → x < 16384
-number-small s at x next b e = subst Small e (small at (drop at s) (λ i. rw getD-drop (b (at + i))))
-
--- The output: as many numbers as fit.
-
--- one more number, where there is a place for it
-stored-set : (xs out : List ℕ) (n x : ℕ) → length xs ≡ n → n < length out → set (stored xs out) n x ≡ stored (xs ++ (x ∷ [])) out
-stored-set xs out n x e h =
+-- The output: as many numbers as fit, and one more.
+stored-more : (xs out : List ℕ) (n x : ℕ) → length xs ≡ n → set (stored xs out) n x ≡ stored (xs ++ (x ∷ [])) out
+stored-more xs out n x e =
     let more : length (xs ++ (x ∷ [])) ≡ suc n = omega (arith, length-append xs (x ∷ [])) in
+    by-test (ltb n (length out))
+    (λ t.
+    let h : n < length out = ltb-true n (length out) t in
     rw (
       take-all (length out) xs (omega arith),
       take-all (length out) (xs ++ (x ∷ [])) (omega arith),
@@ -133,86 +90,100 @@ stored-set xs out n x e h =
       e,
       drop-cons out n 0 h,
     )
-    (set-at xs (getD out n 0) (drop (suc n) out) x n e ∙ sym (append-snoc xs x (drop (suc n) out)))
-
--- one more number, where there is none
-stored-pass : (xs out : List ℕ) (x : ℕ) → length out ≤ length xs → stored xs out ≡ stored (xs ++ (x ∷ [])) out
-stored-pass xs out x h =
+    (set-at xs (getD out n 0) (drop (suc n) out) x n e ∙ sym (append-snoc xs x (drop (suc n) out))))
+    (λ t.
+    let h : length out ≤ n = ltb-false n (length out) t in
     rw (
-      take-append-le (length out) xs (x ∷ []) h,
-      drop-of-length-le out {i = length xs} h,
-      drop-of-length-le out {i = length (xs ++ (x ∷ []))} (omega (arith, length-append xs (x ∷ []))),
+      take-append-le (length out) xs (x ∷ []) (omega arith),
+      drop-of-length-le out {i = length xs} (omega arith),
+      drop-of-length-le out {i = length (xs ++ (x ∷ []))} (omega arith),
+      append-nil,
     )
+    (set-out (take (length out) xs) n x (omega (arith, length-take (length out) xs))))
 
--- The bytes before `at` have been cut into n numbers.
-pub record Cutting (s before out : List ℕ) (at n : ℕ) : Type 0 where
+-- The bytes before `at` have been read: n numbers have ended, and the next byte has this place in its number, which is so far known.
+pub record Cutting (s before out : List ℕ) (at n place soFar : ℕ) : Type 0 where
   pub within : at ≤ length s
   pub fewer : n ≤ at
   pub same : length out ≡ length before
+  pub low : soFar < 128
   pub had : List ℕ
   pub count : length had ≡ n
-  pub rest : cut s ≡ mapped (had ++_) (cut (drop at s))
+  pub known : scan (take at s) ≡ going had place soFar
   pub kept : out ≡ stored had before
 
--- the numbers had and one more
-mapped-more : (a : List ℕ) (x : ℕ) (r : Result (List ℕ)) → mapped (a ++_) (mapped (x ∷_) r) ≡ mapped ((a ++ (x ∷ [])) ++_) r
-mapped-more a x (done l) = ap done (sym (append-snoc a x l))
-mapped-more a x (fault c) = refl
-
-pub cutting-start : (s before : List ℕ) → Cutting s before before 0 0
+pub cutting-start : (s before : List ℕ) → Cutting s before before 0 0 0 0
 cutting-start s before =
-    record { within = omega arith; fewer = omega arith; same = refl; had = []; count = refl; rest = sym (none-yet (cut s)); kept = rw take-nil }
-  where
-    none-yet : (r : Result (List ℕ)) → mapped ([] ++_) r ≡ r
-    none-yet (done l) = refl
-    none-yet (fault c) = refl
+    record { within = omega arith; fewer = omega arith; same = refl; low = omega arith; had = []; count = refl; known = refl; kept = rw take-nil }
 
-module _ {s before out : List ℕ} {at n : ℕ} (w : Cutting s before out at n) where
-  module _ (x next : ℕ) (h : at < length s) (e : headCut at (drop at s) ≡ Number x next) where
-    further : cut s ≡ mapped ((w .had ++ (x ∷ [])) ++_) (cut (drop next s))
-    further = w .rest ∙ ap (mapped (w .had ++_)) ((cut-number s at h x next e) .2) ∙ mapped-more (w .had) x (cut (drop next s))
+module _ {s before out : List ℕ} {at n place soFar : ℕ} (w : Cutting s before out at n place soFar) where
+  module _ (h : at < length s) where
+    -- what is known after one byte more
+    further : (k : Known) → cutStep (getD s at 0) place soFar ≡ k → scan (take (at + 1) s) ≡ scanned (w .had) place k
+    further k e = scan-next s at h ∙ ap (scanStep (getD s at 0)) (w .known) ∙ ap (scanned (w .had) place) e
 
-    -- a number, and a place for it
-    pub cutting-take : n < length before → Cutting s before (set out n x) next (n + 1)
-    cutting-take k =
-        let g = cut-number s at h x next e in
-        record {
-          within = g .1;
-          fewer = omega (arith, g .0, w .fewer);
-          same = simp length-set (w .same);
-          had = w .had ++ (x ∷ []);
-          count = omega (arith, length-append (w .had) (x ∷ []), w .count);
-          rest = further;
-          kept = ap (λ o. set o n x) (w .kept) ∙ stored-set (w .had) before n x (w .count) k;
-        }
+    -- a refusal decides over all
+    pub cutting-refused : (c : Refusal) → Refused c ≡ stepReply (cutStep (getD s at 0) place soFar) → CutInto s before (Refused c) out
+    cutting-refused c e =
+        let f : cut s ≡ fault c = prefix-fault s (at + 1) c (further (broken c) (refusal-told (cutStep (getD s at 0) place soFar) c e)) in
+        record { same = w .same; reply = rw f; output = λ xs g. clash cc }
 
-    -- a number, and no place for it
-    pub cutting-pass : length before ≤ n → Cutting s before out next (n + 1)
-    cutting-pass k =
-        let g = cut-number s at h x next e in
-        record {
-          within = g .1;
-          fewer = omega (arith, g .0, w .fewer);
-          same = w .same;
-          had = w .had ++ (x ∷ []);
-          count = omega (arith, length-append (w .had) (x ∷ []), w .count);
-          rest = further;
-          kept = w .kept ∙ stored-pass (w .had) before x (omega (arith, w .count));
-        }
+    module _ (value next : ℕ) (byte : getD s at 0 < 256) (e : Number value next ≡ stepReply (cutStep (getD s at 0) place soFar)) where
+      bounded : Small place (cutStep (getD s at 0) place soFar)
+      bounded = small (getD s at 0) place soFar byte (w .low)
 
-  -- a refusal decides over all
-  pub cutting-refused : (c : Refusal) → at < length s → headCut at (drop at s) ≡ Refused c → CutInto s before (Refused c) out
-  cutting-refused c h e =
-      let f : cut s ≡ fault c = w .rest ∙ ap (mapped (w .had ++_)) (cut-refused s at h c e) in
+      -- a number has ended: it is below 16,384, and one more is kept and counted
+      module _ (z : next ≡ 0) where
+        ended : cutStep (getD s at 0) place soFar ≡ whole value
+        ended = ended-told (cutStep (getD s at 0) place soFar) value (ap (Number value) (sym z) ∙ e)
+
+        pub ended-small : value < 16384
+        ended-small = subst (Small place) ended bounded
+
+        pub cutting-ended : Cutting s before (set out n value) (at + 1) (n + 1) next 0
+        cutting-ended =
+            record {
+              within = omega arith;
+              fewer = omega (arith, w .fewer);
+              same = simp length-set (w .same);
+              low = omega arith;
+              had = w .had ++ (value ∷ []);
+              count = omega (arith, length-append (w .had) (value ∷ []), w .count);
+              known = further (whole value) ended ∙ ap (λ p. going (w .had ++ (value ∷ [])) p 0) (sym z);
+              kept = ap (λ o. set o n value) (w .kept) ∙ stored-more (w .had) before n value (w .count);
+            }
+
+      -- a number goes on
+      pub cutting-open : 0 < next → Cutting s before out (at + 1) n next value
+      cutting-open k =
+          let told = open-told (cutStep (getD s at 0) place soFar) value next e k in
+          let b = subst (Small place) (told .0) bounded in
+          record {
+            within = omega arith;
+            fewer = omega (arith, w .fewer);
+            same = w .same;
+            low = b .0;
+            had = w .had;
+            count = w .count;
+            known = further (begun value) (told .0) ∙ ap (λ p. going (w .had) p value) (omega (arith, b .1, told .1));
+            kept = w .kept;
+          }
+
+  -- No byte is left: a number is open ..
+  pub cutting-truncated : length s ≤ at → 0 < place → CutInto s before (Refused Truncated) out
+  cutting-truncated h p =
+      let f : cut s ≡ fault Truncated = prefix-end s at h ∙ ap scanEnd (w .known) ∙ open-end place p in
       record { same = w .same; reply = rw f; output = λ xs g. clash cc }
+    where
+      open-end : (p : ℕ) → 0 < p → scanEnd (going (w .had) p soFar) ≡ fault Truncated
+      open-end zero k = absurd (omega arith)
+      open-end (suc p) k = refl
 
-  -- no byte is left
-  pub cutting-end : length s ≤ at → CutInto s before (Number n at) out
-  unfolding cut
-  cutting-end h =
+  -- .. or none is
+  pub cutting-end : length s ≤ at → place ≡ 0 → CutInto s before (Number n at) out
+  cutting-end h p =
       let e : at ≡ length s = omega (arith, w .within) in
-      let d : drop at s ≡ [] = drop-of-length-le s {i = at} h in
-      let f : cut s ≡ done (w .had) = w .rest ∙ rw (d, append-nil) in
+      let f : cut s ≡ done (w .had) = prefix-end s at h ∙ ap scanEnd (w .known ∙ ap (λ q. going (w .had) q soFar) p) in
       record {
         same = w .same;
         reply = rw (f, w .count, e);

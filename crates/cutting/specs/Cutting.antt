@@ -1,21 +1,18 @@
--- What the cutting functions answer, by the definition `cut` of a written code.
+-- What the cutting functions answer: of one byte by the definition `cutStep`, of a whole slice by the definition `cut`.
 use mathlib.Core.Path.{_≡_}
-use mathlib.Core.Bool.{cond, _||_}
-use mathlib.Core.List.{List, [], _∷_, _++_}
-use Prim.Native.Nat.{ℕ, _+_, _-_, _*_}
-use lib.Dec.{ltb, leb, eqb}
+use mathlib.Core.List.{List, _++_}
+use Prim.Native.Nat.{ℕ}
 use lib.ListN.{length, take, drop}
-use Rattle.patterns.specs.declared.Refusal.the-variants.{Truncated, NumberForm}
 use Rattle.patterns.specs.Reading.{Result, done, fault, cut}
+use Rattle.patterns.specs.OnePass.{Known, whole, begun, broken}
 use Rattle.cutting.specs.declared.Cut.{Cut}
 use Rattle.cutting.specs.declared.Cut.the-variants.{Number, Refused}
 
--- the number with which the bytes from place `at` on begin, and the place after it
-abbrev pub headCut : ℕ → List ℕ → Cut
-headCut at [] = Refused Truncated
-headCut at (x ∷ []) = cond (ltb x 128) (Number x (at + 1)) (Refused Truncated)
-headCut at (x ∷ y ∷ l) =
-    cond (ltb x 128) (Number x (at + 1)) (cond (eqb y 0 || leb 128 y) (Refused NumberForm) (Number (x - 128 + y * 128) (at + 2)))
+-- what is told of a number after one of its bytes: its value, or its beginning, and the place of its next byte, 0 where it has ended
+abbrev pub stepReply : Known → Cut
+stepReply (whole n) = Number n 0
+stepReply (begun v) = Number v 1
+stepReply (broken c) = Refused c
 
 -- how many numbers, and the length of the bytes
 abbrev pub cutReply : ℕ → Result (List ℕ) → Cut

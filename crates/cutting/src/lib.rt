@@ -1,55 +1,74 @@
-// The bytes of a written code, cut into numbers [document 01, "The written code"].
+// The bytes of a written code, cut into numbers [document 01, "The written code"] in one pass [document 02, paper 4].
 use patterns::Refusal;
 ghost use denote.Ref.{now};
 ghost use Prim.Native.Nat.{_<_};
 ghost use mathlib.Core.Path.{_≡_};
-ghost use lib.ListN.{length, drop};
-ghost use Rattle.cutting.specs.Cutting.{headCut, CutInto};
+ghost use lib.ListN.{set};
+ghost use Rattle.patterns.specs.OnePass.{cutStep};
+ghost use Rattle.cutting.specs.Cutting.{stepReply, CutInto};
 
-// One number: its value and the place after it. A whole slice: how many numbers, and its length. Or the cause of a refusal.
+// After one byte: the number so far, and the place of its next byte, 0 where it has ended. After a whole slice: how many numbers, and its length.
+// Or the cause of a refusal.
 pub enum Cut {
     Number(usize, usize),
     Refused(Refusal),
 }
 
-// The number that begins at `at`.
-pub fn cut_at(s: &[u8], at: usize) -> Cut
-    requires { ⌜ at < length (now s) ⌝ }
-    ensures { λ r. ⌜ r ≡ headCut at (drop at (now (s .entry))) ⌝ }
+// What is known of a number after its byte at `place`, where `number` is the number so far.
+fn cut_step(byte: usize, place: usize, number: usize) -> Cut
+    requires { ⌜ number < 128 ⌝ }
+    ensures { λ r. ⌜ r ≡ stepReply (cutStep byte place number) ⌝ }
 {
-    let first = s[at] as usize;
-    if first < 128 {
-        return Cut::Number(first, at + 1);
+    if place == 0 {
+        if byte < 128 {
+            return Cut::Number(byte, 0);
+        }
+        return Cut::Number(byte - 128, 1);
     }
-    if s.len() <= at + 1 {
-        return Cut::Refused(Refusal::Truncated);
-    }
-    let second = s[at + 1] as usize;
-    if second == 0 {
+    if byte == 0 {
         return Cut::Refused(Refusal::NumberForm);
     }
-    if 128 <= second {
+    if 128 <= byte {
         return Cut::Refused(Refusal::NumberForm);
     }
-    Cut::Number(first - 128 + second * 128, at + 2)
+    Cut::Number(number + byte * 128, 0)
 }
 
-// All of `s`, cut from left to right; the first fault decides. `out` keeps as many of the numbers as it has places for, and all are counted.
+// The number x, put at place n where `out` has one.
+fn keep(x: usize, out: &mut [u16], n: usize)
+    requires { ⌜ x < 16384 ⌝ }
+    ensures { λ r. ⌜ now (out .exit) ≡ set (now (out .entry)) n x ⌝ }
+{
+    if n < out.len() {
+        out[n] = x as u16;
+    }
+}
+
+// All of `s`, each byte read once, from left to right; the first fault decides. `out` keeps as many of the numbers as it has places for, and all are counted.
 pub fn cut_into(s: &[u8], out: &mut [u16]) -> Cut
     ensures { λ r. ⌜ CutInto (now (s .entry)) (now (out .entry)) r (now (out .exit)) ⌝ }
 {
     let mut at = 0;
     let mut n = 0;
+    let mut place = 0;
+    let mut number = 0;
     while at < s.len() {
-        let number = cut_at(s, at);
-        let Cut::Number(x, next) = number else {
-            return number;
+        let known = cut_step(s[at] as usize, place, number);
+        let Cut::Number(value, next) = known else {
+            return known;
         };
-        if n < out.len() {
-            out[n] = x as u16;
+        if next == 0 {
+            keep(value, out, n);
+            n += 1;
+            number = 0;
+        } else {
+            number = value;
         }
-        n += 1;
-        at = next;
+        place = next;
+        at += 1;
+    }
+    if place != 0 {
+        return Cut::Refused(Refusal::Truncated);
     }
     Cut::Number(n, at)
 }

@@ -1,5 +1,6 @@
 -- The theorems about the entries, and that their contracts are what the theorems speak of.
 pub mod Theorems
+pub mod PreviewTheorems
 pub mod CensusTheorems
 pub mod PageTheorems
 pub mod PredecessorTheorems

@@ -2,6 +2,8 @@
 pub mod Bounds
 pub mod Results
 pub mod Numbers
+pub mod OnePass
+pub mod NumberForms
 pub mod Widths
 pub mod ReadFrom
 pub mod Readback

@@ -6,6 +6,7 @@ pub mod Sheet
 pub mod Totals
 pub mod Causes
 pub mod AcceptanceExamples
+pub mod OnePassExamples
 pub mod TableExamples
 pub mod MapExamples
 pub mod IsomorphismExamples

@@ -5,6 +5,7 @@ pub mod Generation
 pub mod System
 pub mod Written
 pub mod Reading
+pub mod OnePass
 pub mod Table
 pub mod MapOf
 pub mod Isomorphism

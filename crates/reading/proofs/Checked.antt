@@ -9,6 +9,7 @@ use Rattle.patterns.specs.declared.Refusal.the-variants.{Count, Sizes, NotCanon
 use Rattle.patterns.specs.System.{System, weight, canonical}
 use Rattle.patterns.specs.Reading.{Result, done, fault, andThen, cut, readComponents, finished, readBody, readSystem, accepted}
 use Rattle.reading.specs.Shape.{ended, shapeBody, shape, codeShape}
+use Rattle.reading.proofs.Prefix.{same-results}
 
 -- the last check
 unfoldable pub checked : System → Result System
@@ -30,10 +31,6 @@ then-then (fault c) f g = refl
 then-cond : {A B : Type 0} (b : Bool) (x y : Result A) (g : A → Result B) → andThen (cond b x y) g ≡ cond b (andThen x g) (andThen y g)
 then-cond true x y g = refl
 then-cond false x y g = refl
-
-same-results : {A B : Type 0} (r : Result A) (f g : A → Result B) → ((x : A) → f x ≡ g x) → andThen r f ≡ andThen r g
-same-results (done x) f g h = h x
-same-results (fault c) f g h = refl
 
 body-shape : (n : ℕ) (s : List ℕ) → readBody n s ≡ andThen (shapeBody n s) checked
 unfolding readBody shapeBody

@@ -1,5 +1,6 @@
 -- The laws of reading a code, in plain terms; the proofs of the functions cite them.
 pub mod Prefix
+pub mod KeptShape
 pub mod Whole
 pub mod Kept
 pub mod Sound

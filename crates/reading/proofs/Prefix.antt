@@ -17,13 +17,17 @@ use Rattle.form_theory.proofs.Results.{Good, or-false}
 use Rattle.form_theory.proofs.ReadFrom.{TreeOf, TreesOf, tree-good, trees-good}
 
 -- what stands behind a fault, or in the arm that is not chosen, does not matter
-same-else : {A : Type 0} (b : Bool) (x : A) {y z : A} → (b ≡ false → y ≡ z) → cond b x y ≡ cond b x z
+pub same-else : {A : Type 0} (b : Bool) (x : A) {y z : A} → (b ≡ false → y ≡ z) → cond b x y ≡ cond b x z
 same-else true x f = refl
 same-else false x f = f refl
 
 same-then : {A B : Type 0} (Q : A → Type 0) (r : Result A) {f g : A → Result B} → Good Q r → ((x : A) → Q x → f x ≡ g x) → andThen r f ≡ andThen r g
 same-then Q (done x) q h = h x q
 same-then Q (fault c) q h = refl
+
+pub same-results : {A B : Type 0} (r : Result A) (f g : A → Result B) → ((x : A) → f x ≡ g x) → andThen r f ≡ andThen r g
+same-results (done x) f g h = h x
+same-results (fault c) f g h = refl
 
 drop-take : {A : Type 0} (m j : ℕ) (s : List A) → drop m (take j s) ≡ take (j - m) (drop m s)
 drop-take zero j s = rw sub-zero

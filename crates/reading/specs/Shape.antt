@@ -37,10 +37,13 @@ unfoldable pub codeShape : List ℕ → Result System
 unfolding cut shape
 codeShape b = andThen (cut b) shape
 
--- How many numbers of a code are kept to be read: a code of 200 points has n, m, a number for each of its components and one for each of its points,
--- and one more shows that some are left.
+-- the most numbers that a code of n points has: n, m, one for each component and one for each point
+abbrev pub mostNumbers : ℕ → ℕ
+mostNumbers n = 2 + (n + n)
+
+-- How many numbers of a code are kept to be read: all that a code of 200 points can have, and one more, which shows that some are left.
 abbrev pub keptNumbers : ℕ
-keptNumbers = 403
+keptNumbers = mostNumbers 200 + 1
 
 -- the number of components and the number of points
 abbrev pub acceptance : Result System → Accepted

@@ -12,8 +12,7 @@ ghost use Prim.Native.Nat.{ℕ};
 ghost use lib.ListN.{length, take};
 ghost use Rattle.reading.specs.Shape.{shape, codeShape, keptNumbers, AcceptedInto};
 
-// How many numbers of a code are kept: all that a code of 200 points has (n, m, one for each component and each point), and one more, which shows
-// that some are left.
+// How many numbers of a code are kept: `keptNumbers` of the definitions.
 const KEPT: usize = 403;
 
 // The number of components and the number of points, or the cause of a refusal.

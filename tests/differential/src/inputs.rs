@@ -72,7 +72,7 @@ pub fn two_tables(comparison: &mut Comparison, f: &[u8], g: &[u8]) {
 }
 
 /// Bytes at which the forms of numbers, or the counts, change.
-const EDGES: [u8; 12] = [0, 1, 2, 3, 126, 127, 128, 129, 199, 200, 201, 255];
+pub const EDGES: [u8; 12] = [0, 1, 2, 3, 126, 127, 128, 129, 199, 200, 201, 255];
 
 /// A byte that is likely to hurt: an edge, one near the old byte, or any.
 fn hurting_byte(old: u8, random: &mut Random) -> u8 {

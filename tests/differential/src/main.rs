@@ -14,7 +14,7 @@ use std::path::Path;
 use std::process::ExitCode;
 
 /// The calls that a run has to make.
-const LEAST_CALLS: u64 = 1_000_000;
+const LEAST_CALLS: u64 = 20_000_000;
 
 /// An entry that steps from a code to a neighbour in the list.
 type Step = fn(&[u8], &mut [u8]) -> i64;
@@ -48,6 +48,52 @@ fn firsts(comparison: &mut Comparison) {
 fn every_code(comparison: &mut Comparison) {
     for code in (0..=8).flat_map(codes) {
         inputs::code(comparison, &code);
+    }
+}
+
+/// Every string of up to two bytes to every entry that takes a code, and every one of three bytes to accept, which tells the cause.
+fn every_short(comparison: &mut Comparison) {
+    for length in 0..=3 {
+        for number in 0..1u32 << (8 * length) {
+            let bytes = &number.to_be_bytes()[4 - length..];
+            if length < 3 {
+                inputs::code(comparison, bytes);
+            } else {
+                comparison.accept(bytes);
+            }
+        }
+    }
+}
+
+/// A code as it is while it is typed, from no byte to all, and with a wrong byte after each. The rest of it stands behind, where one who reads too far finds it.
+fn typed(comparison: &mut Comparison, code: &[u8]) {
+    let mut bytes = code.to_vec();
+    bytes.push(0);
+    for place in 0..bytes.len() {
+        comparison.accept(&bytes[..place]);
+        let old = bytes[place];
+        for byte in inputs::EDGES {
+            bytes[place] = byte;
+            comparison.accept(&bytes[..=place]);
+        }
+        bytes[place] = old;
+    }
+}
+
+/// The keystrokes of codes of every kind, with numbers of one byte only and of both forms.
+fn keystrokes(comparison: &mut Comparison, random: &mut Random) {
+    for (_, kind) in KINDS {
+        for n in [1, 2, 5, 12, 40, 127, 128, 129, 150, 199, 200] {
+            typed(comparison, &code_of(&kind(n, random)));
+        }
+    }
+}
+
+/// Strings of the bytes at which the forms of numbers change, and no others: good numbers and faults of every kind stand close together.
+fn edges(comparison: &mut Comparison, random: &mut Random, rounds: usize) {
+    for round in 0..rounds {
+        let bytes: Vec<u8> = (0..4 + round % 5).map(|_| *random.pick(&inputs::EDGES)).collect();
+        comparison.accept(&bytes);
     }
 }
 
@@ -302,6 +348,7 @@ fn main() -> ExitCode {
     model::run(comparison, Path::new(&data));
     firsts(comparison);
     every_code(comparison);
+    every_short(comparison);
     every_small_damage(comparison);
     every_map(comparison);
     small_pairs(comparison, random);
@@ -315,6 +362,8 @@ fn main() -> ExitCode {
     every_page(comparison);
     pages(comparison, random, 12);
     whole_pages(comparison, random);
+    keystrokes(comparison, random);
+    edges(comparison, random, 500_000);
     if report(comparison) {
         ExitCode::SUCCESS
     } else {

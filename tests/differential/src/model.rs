@@ -118,7 +118,7 @@ fn listing(comparison: &mut Comparison, n: usize, text: &str) {
 /// All files of the data.
 pub fn run(comparison: &mut Comparison, data: &Path) {
     let read = |name: &str| std::fs::read_to_string(data.join(name)).expect(name);
-    for name in ["examples", "damaged", "damaged_long", "reordered", "hostile", "rooms", "steps", "steps_back", "codes", "census"] {
+    for name in ["examples", "damaged", "damaged_long", "reordered", "hostile", "keystrokes", "rooms", "steps", "steps_back", "codes", "census"] {
         read(name).lines().for_each(|line| case(comparison, line));
     }
     for name in ["pages", "pages_long"] {

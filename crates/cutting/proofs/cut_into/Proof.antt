@@ -2,80 +2,88 @@ use denote.Ref.{now}
 use mathlib.Core.Path.{_≡_, sym, subst, _∙_}
 use mathlib.Core.Logic.{⊎-elim}
 use mathlib.Core.List.{List}
-use Prim.Native.Nat.{ℕ, _-_}
+use Prim.Native.Nat.{ℕ, _-_, _<_}
 use native.Mathlib.Omega.{arith}
 use borrow.Author.Needs.{needs}
-use lib.ListN.{length, drop}
+use lib.ListN.{length, getD}
+use Rattle.patterns.specs.OnePass.{cutStep}
 use Rattle.cutting.specs.declared.Cut.the-variants.{Number}
-use Rattle.cutting.specs.Cutting.{headCut, CutInto}
-use Rattle.cutting.proofs.Cutting.{Cutting, cutting-start, cutting-take, cutting-pass, cutting-refused, cutting-end, cut-number, number-small}
+use Rattle.cutting.specs.Cutting.{stepReply, CutInto}
+use Rattle.cutting.proofs.Cutting.{Cutting, cutting-start, cutting-refused, ended-small, cutting-ended, cutting-open, cutting-truncated, cutting-end}
 use Rattle.cutting.proofs.cut_into.Statement.{statement}
 use Rattle.cutting.proofs.cut_into.Tie as tie
 
 abbrev Inv-loop : tie.InvT-loop
-Inv-loop s out₀ at₀ n₀ out at n = Cutting s out₀ out at n
+Inv-loop s out₀ at₀ n₀ place₀ number₀ out at n place number = Cutting s out₀ out at n place number
 
 abbrev μ-loop : tie.MeasureT-loop
-μ-loop s out₀ at₀ n₀ out at n = length s - at
+μ-loop s out₀ at₀ n₀ place₀ number₀ out at n place number = length s - at
 
--- The place where a number has been cut in this turn, the number and the place after it.
+-- The place where a byte has been read in this turn, and what is told of its number.
 abbrev Found : Type 0
 Found = tie.After-known-told Inv-loop μ-loop
 
 abbrev turn : Found → tie.At-loop Inv-loop μ-loop
-turn c = c .before .before .before .before .before
+turn c = c .before .before .before .before .before .before
 
 abbrev S : Found → List ℕ
 S c = now ((turn c) .before .before .before .args .s)
 
-abbrev X : Found → ℕ
-X c = c .before .number .given .0 .0
+abbrev Value : Found → ℕ
+Value c = c .before .known .given .0 .0
 
 abbrev Next : Found → ℕ
-Next c = c .before .number .given .0 .1 .0
-
-number-is : (c : Found) → headCut ((turn c) .loop .at) (drop ((turn c) .loop .at) (S c)) ≡ Number (X c) (Next c)
-number-is c = sym (c .before .before .before .cut-at .ensures) ∙ c .before .number .given .1
+Next c = c .before .known .given .0 .1 .0
 
 loop-holds : tie.Need-loop-holds Inv-loop μ-loop
 loop-holds c = cutting-start (now (c .before .before .args .s)) (now (c .before .before .args .out))
 
+told : (c : Found) → let l = (turn c) .loop in Number (Value c) (Next c) ≡ stepReply (cutStep (getD (S c) (l .at) 0) (l .place) (l .number))
+told c = sym (c .before .known .given .1) ∙ c .before .before .before .cut-step .ensures
+
+byte : (c : Found) → getD (S c) ((turn c) .loop .at) 0 < 256
+byte c = omega (arith, (turn c) .before .before .shared-slice-known .given ((turn c) .loop .at))
+
+cast-cut-step : tie.Need-cast-cut-step Inv-loop μ-loop
+cast-cut-step c = omega (arith, c .shared-slice-known2 .given (c .before .before .loop .at))
+
 same-length : tie.Need-same-length Inv-loop μ-loop
-same-length c = c .before .before .before .before .loop .inv .same
+same-length c = c .before .before .before .before .before .loop .inv .same
 
 returns : tie.Need-returns Inv-loop μ-loop
 returns c =
-    let l = c .before .before .before .before .loop in
-    let a = c .before .before .before .before .before .before .before .args in
-    let call = c .before .before .cut-at in
+    let l = c .before .before .before .before .before .loop in
+    let a = c .before .before .before .before .before .before .before .before .args in
     let refusal = c .enum-told .given in
     subst
     (λ r. CutInto (now (a .s)) (now (a .out)) r (l .out))
     (sym (refusal .1))
-    (cutting-refused (l .inv) (refusal .0 .0) (omega arith) (sym (call .ensures) ∙ refusal .1))
+    (cutting-refused (l .inv) (omega arith) (refusal .0 .0) (sym (refusal .1) ∙ c .before .before .cut-step .ensures))
 
-cast-out : tie.Need-cast-out Inv-loop μ-loop
-cast-out c =
-    let f : Found = c .before in
-    let bytes = (turn f) .before .before .shared-slice-known .given in
-    omega (arith, number-small (S f) ((turn f) .loop .at) (X f) (Next f) (λ i. omega (arith, bytes i)) (number-is f))
+keep-requires : tie.Need-keep-requires Inv-loop μ-loop
+keep-requires c κs =
+    let f : Found = c .before .before in
+    ended-small ((turn f) .loop .inv) (omega arith) (Value f) (Next f) (byte f) (told f) (omega arith)
 
-loop-less : tie.Need-loop-less Inv-loop μ-loop
-loop-less c =
-    let f : Found = c .before in
-    omega (arith, cut-number (S f) ((turn f) .loop .at) (omega arith) (X f) (Next f) (number-is f))
+add-n : tie.Need-add-n Inv-loop μ-loop
+add-n c =
+    let f : Found = c .before .before .before .before .before in
+    omega (arith, (turn f) .loop .inv .fewer)
 
 loop-again : tie.Need-loop-again Inv-loop μ-loop
 loop-again c =
     let f : Found = c .before in
     let inv = (turn f) .loop .inv in
     ⊎-elim
-    (λ v. rw (v .1) (cutting-take inv (X f) (Next f) (omega arith) (number-is f) (omega (arith, v .0 .taken))))
-    (λ v. rw (v .1) (cutting-pass inv (X f) (Next f) (omega arith) (number-is f) (omega (arith, v .0 .left))))
+    (λ v. rw (v .5, v .6, v .7, v .2 .ensures) (cutting-ended inv (omega arith) (Value f) (Next f) (byte f) (told f) (omega (arith, v .0 .taken))))
+    (λ v. rw (v .1, v .2, v .3) (cutting-open inv (omega arith) (Value f) (Next f) (byte f) (told f) (omega (arith, v .0 .left))))
     (c .if1 .came)
 
 returns-2 : tie.Need-returns-2 Inv-loop μ-loop
-returns-2 c = cutting-end (c .before .loop .inv) (omega arith)
+returns-2 c = cutting-truncated (c .before .before .loop .inv) (omega arith) (omega arith)
+
+returns-3 : tie.Need-returns-3 Inv-loop μ-loop
+returns-3 c = cutting-end (c .before .before .loop .inv) (omega arith) (omega arith)
 
 pub cut-into-spec : {M : Type 1} → statement M
 cut-into-spec =
@@ -84,16 +92,19 @@ cut-into-spec =
     Inv-loop
     μ-loop
     loop-holds
-    (λ c κs. search needs)
+    (λ c. search needs)
+    cast-cut-step
+    (λ c κs. c .before .before .loop .inv .low)
     (λ c. search needs)
     (λ c. search needs)
     same-length
     returns
-    cast-out
+    keep-requires
+    add-n
     (λ c. search needs)
     (λ c. search needs)
-    (λ c. search needs)
-    loop-less
     loop-again
-    (λ c. c .before .loop .inv .same)
-    returns-2)
+    (λ c. c .before .before .loop .inv .same)
+    returns-2
+    (λ c. c .before .before .loop .inv .same)
+    returns-3)
