@@ -12,10 +12,9 @@ use Rattle.lists.proofs.Tests.{by-test, clash}
 use Rattle.patterns.specs.declared.Refusal.{Refusal}
 use Rattle.patterns.specs.declared.Refusal.the-variants.{Truncated, NumberForm}
 use Rattle.patterns.specs.Reading.{Result, done, fault, cut}
-use Rattle.patterns.specs.OnePass.{Known, whole, begun, broken, cutStep, going, stopped, scanned, scanStep, scan, scanEnd}
+use Rattle.patterns.specs.OnePass.{Known, whole, begun, broken, cutStep, going, scanned, scanStep, scan, scanEnd}
 use Rattle.form_theory.proofs.Results.{or-false}
 use Rattle.form_theory.proofs.OnePass.{scan-next, prefix-fault, prefix-end}
-use Rattle.cutting.specs.declared.Cut.{Cut}
 use Rattle.cutting.specs.declared.Cut.the-variants.{Number, Refused}
 use Rattle.cutting.specs.Cutting.{stepReply, cutReply, stored, CutInto}
 
@@ -48,20 +47,20 @@ second-low x (suc p) v q k h = rw (lt-leb 128 x h, ne-eqb x 0 (λ e. omega arith
 
 -- What the reply of a step tells.
 
-ended-told : (k : Known) (v : ℕ) → Number v 0 ≡ stepReply k → k ≡ whole v
-ended-told (whole n) v e = cc
-ended-told (begun n) v e = clash cc
-ended-told (broken c) v e = clash cc
+whole-told : (k : Known) (v : ℕ) → Number v 0 ≡ stepReply k → k ≡ whole v
+whole-told (whole n) v e = cc
+whole-told (begun n) v e = clash cc
+whole-told (broken c) v e = clash cc
 
-open-told : (k : Known) (v next : ℕ) → Number v next ≡ stepReply k → 0 < next → (k ≡ begun v) × (next ≡ 1)
-open-told (whole n) v next e h = let z : next ≡ 0 = cc in absurd (omega arith)
-open-told (begun n) v next e h = (cc, cc)
-open-told (broken c) v next e h = clash cc
+begun-told : (k : Known) (v next : ℕ) → Number v next ≡ stepReply k → 0 < next → (k ≡ begun v) × (next ≡ 1)
+begun-told (whole n) v next e h = let z : next ≡ 0 = cc in absurd (omega arith)
+begun-told (begun n) v next e h = (cc, cc)
+begun-told (broken c) v next e h = clash cc
 
-refusal-told : (k : Known) (c : Refusal) → Refused c ≡ stepReply k → k ≡ broken c
-refusal-told (whole n) c e = clash cc
-refusal-told (begun n) c e = clash cc
-refusal-told (broken d) c e = cc
+broken-told : (k : Known) (c : Refusal) → Refused c ≡ stepReply k → k ≡ broken c
+broken-told (whole n) c e = clash cc
+broken-told (begun n) c e = clash cc
+broken-told (broken d) c e = cc
 
 -- How great a number can be, from a byte below 256: as a whole below 16,384, and its beginning below 128.
 abbrev Small : ℕ → Known → Type 0
@@ -125,7 +124,7 @@ module _ {s before out : List ℕ} {at n place soFar : ℕ} (w : Cutting s befor
     -- a refusal decides over all
     pub cutting-refused : (c : Refusal) → Refused c ≡ stepReply (cutStep (getD s at 0) place soFar) → CutInto s before (Refused c) out
     cutting-refused c e =
-        let f : cut s ≡ fault c = prefix-fault s (at + 1) c (further (broken c) (refusal-told (cutStep (getD s at 0) place soFar) c e)) in
+        let f : cut s ≡ fault c = prefix-fault s (at + 1) c (further (broken c) (broken-told (cutStep (getD s at 0) place soFar) c e)) in
         record { same = w .same; reply = rw f; output = λ xs g. clash cc }
 
     module _ (value next : ℕ) (byte : getD s at 0 < 256) (e : Number value next ≡ stepReply (cutStep (getD s at 0) place soFar)) where
@@ -135,7 +134,7 @@ module _ {s before out : List ℕ} {at n place soFar : ℕ} (w : Cutting s befor
       -- a number has ended: it is below 16,384, and one more is kept and counted
       module _ (z : next ≡ 0) where
         ended : cutStep (getD s at 0) place soFar ≡ whole value
-        ended = ended-told (cutStep (getD s at 0) place soFar) value (ap (Number value) (sym z) ∙ e)
+        ended = whole-told (cutStep (getD s at 0) place soFar) value (ap (Number value) (sym z) ∙ e)
 
         pub ended-small : value < 16384
         ended-small = subst (Small place) ended bounded
@@ -156,7 +155,7 @@ module _ {s before out : List ℕ} {at n place soFar : ℕ} (w : Cutting s befor
       -- a number goes on
       pub cutting-open : 0 < next → Cutting s before out (at + 1) n next value
       cutting-open k =
-          let told = open-told (cutStep (getD s at 0) place soFar) value next e k in
+          let told = begun-told (cutStep (getD s at 0) place soFar) value next e k in
           let b = subst (Small place) (told .0) bounded in
           record {
             within = omega arith;

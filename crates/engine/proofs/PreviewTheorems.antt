@@ -1,5 +1,5 @@
 -- What follows from the promise of "accept" where a code is read at each keystroke [document 02, paper 4].
-use mathlib.Core.Path.{_≡_, refl, ap, sym, _∙_}
+use mathlib.Core.Path.{_≡_, refl, ap, _∙_}
 use mathlib.Core.List.{List, [], _∷_, _++_}
 use Prim.Native.Nat.{ℕ}
 use Rattle.lists.proofs.Tests.{clash}

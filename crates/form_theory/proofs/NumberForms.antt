@@ -1,5 +1,5 @@
 -- Refusal 4, the form of a number: the numbers that were cut never have it, so it comes from the cut alone; and no byte that follows mends it.
-use mathlib.Core.Path.{_≡_, ap, sym, _∙_, subst}
+use mathlib.Core.Path.{_≡_, ap, _∙_, subst}
 use mathlib.Core.Bool.{_&&_, _||_}
 use mathlib.Core.List.{List, [], _∷_, _++_}
 use Prim.Native.Nat.{ℕ, zero, suc, _+_, _-_}
@@ -14,8 +14,8 @@ use Rattle.patterns.specs.Component.{points}
 use Rattle.patterns.specs.System.{System, weight, canonical}
 use Rattle.patterns.specs.Reading.{Result, done, fault, andThen, mapped, cut, readTree, readBranches, readTrees, readComponents, finished, readBody, readSystem, accepted}
 use Rattle.patterns.specs.Replies.{numberOf}
-use Rattle.patterns.specs.OnePass.{Scan, going, stopped, scanFrom, scan, scanEnd}
-use Rattle.form_theory.proofs.OnePass.{scan-append, scan-stopped, one-pass, accepted-in-one-pass}
+use Rattle.patterns.specs.OnePass.{Scan, going, stopped, scan, scanEnd}
+use Rattle.form_theory.proofs.OnePass.{stopped-stays, one-pass, accepted-in-one-pass}
 
 -- not refused with 4
 abbrev Formed : {A : Type 0} → Result A → Type 0
@@ -100,5 +100,4 @@ module _ (c : Refusal) (four : numberOf c ≡ 4) where
   -- Bytes that are refused with 4 are refused with it whatever follows them.
   pub form-stays : (b l : List ℕ) → accepted b ≡ fault c → accepted (b ++ l) ≡ fault c
   form-stays b l e =
-      let s : scan (b ++ l) ≡ stopped c = scan-append (going [] 0 0) b l ∙ ap (λ a. scanFrom a l) (form-stopped b (form-cut b e)) ∙ scan-stopped c l in
-      accepted-in-one-pass (b ++ l) ∙ ap (λ a. andThen (scanEnd a) readSystem) s
+      accepted-in-one-pass (b ++ l) ∙ ap (λ s. andThen (scanEnd s) readSystem) (stopped-stays b l c (form-stopped b (form-cut b e)))

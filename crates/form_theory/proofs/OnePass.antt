@@ -11,11 +11,11 @@ use Rattle.lists.proofs.Tests.{by-test}
 use Rattle.patterns.specs.declared.Refusal.{Refusal}
 use Rattle.patterns.specs.declared.Refusal.the-variants.{NumberForm}
 use Rattle.patterns.specs.Reading.{fault, andThen, mapped, cut, readSystem, accepted}
-use Rattle.patterns.specs.OnePass.{cutStep, Scan, going, stopped, scanned, scanStep, scanFrom, scan, scanEnd}
+use Rattle.patterns.specs.OnePass.{Scan, going, stopped, scanStep, scanFrom, scan, scanEnd}
 use Rattle.form_theory.proofs.Results.{mapped-none, mapped-more}
 
 -- the pass over two lists of bytes, one behind the other
-pub scan-append : (s : Scan) (l m : List ℕ) → scanFrom s (l ++ m) ≡ scanFrom (scanFrom s l) m
+scan-append : (s : Scan) (l m : List ℕ) → scanFrom s (l ++ m) ≡ scanFrom (scanFrom s l) m
 scan-append s [] m = refl
 scan-append s (x ∷ l) m = scan-append (scanStep x s) l m
 
@@ -30,9 +30,12 @@ scan-next s at h =
     rw (e, take-suc s at 0 h) (scan-after (take at s) (getD s at 0))
 
 -- a fault decides over all that follows
-pub scan-stopped : (c : Refusal) (l : List ℕ) → scanFrom (stopped c) l ≡ stopped c
+scan-stopped : (c : Refusal) (l : List ℕ) → scanFrom (stopped c) l ≡ stopped c
 scan-stopped c [] = refl
 scan-stopped c (x ∷ l) = scan-stopped c l
+
+pub stopped-stays : (b l : List ℕ) (c : Refusal) → scan b ≡ stopped c → scan (b ++ l) ≡ stopped c
+stopped-stays b l c e = scan-append (going [] 0 0) b l ∙ ap (λ s. scanFrom s l) e ∙ scan-stopped c l
 
 -- from where no number is open, with the numbers xs before
 pass : (xs b : List ℕ) → scanEnd (scanFrom (going xs 0 0) b) ≡ mapped (xs ++_) (cut b)
@@ -58,9 +61,7 @@ accepted-in-one-pass b = ap (λ r. andThen r readSystem) (sym (one-pass b))
 
 -- What is known after a prefix decides: a fault over all bytes, and at their end whether a number is open.
 pub prefix-fault : (s : List ℕ) (k : ℕ) (c : Refusal) → scan (take k s) ≡ stopped c → cut s ≡ fault c
-prefix-fault s k c e =
-    sym (one-pass s)
-    ∙ ap scanEnd (ap scan (sym (take-append-drop k s)) ∙ scan-append (going [] 0 0) (take k s) (drop k s) ∙ ap (λ a. scanFrom a (drop k s)) e ∙ scan-stopped c (drop k s))
+prefix-fault s k c e = sym (one-pass s) ∙ ap scanEnd (ap scan (sym (take-append-drop k s)) ∙ stopped-stays (take k s) (drop k s) c e)
 
 pub prefix-end : (s : List ℕ) (k : ℕ) → length s ≤ k → cut s ≡ scanEnd (scan (take k s))
 prefix-end s k h = sym (one-pass s) ∙ ap (λ l. scanEnd (scan l)) (sym (take-all k s h))

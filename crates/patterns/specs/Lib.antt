@@ -1,4 +1,4 @@
--- The definitions that every promise of this repository cites. Read them in this order.
+-- The definitions that the promises of this repository cite. Read them in this order.
 pub mod Tree
 pub mod Component
 pub mod Generation
