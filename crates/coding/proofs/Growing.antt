@@ -20,7 +20,7 @@ use Rattle.patterns.specs.Component.{points, flat}
 use Rattle.patterns.specs.Table.{image, hangsAt, hanging}
 use Rattle.patterns.proofs.Trees.{size-positive, size-graft, code-branches, branches-graft, length-flat}
 use Rattle.written.specs.Putting.{placed}
-use Rattle.map_theory.specs.Plants.{Plant, tip, shape, root, labels, plantOn, comparePlant, plantTo, plantAt}
+use Rattle.map_theory.specs.Plants.{Plant, tip, shape, labels, plantOn, comparePlant, plantTo, plantAt}
 use Rattle.links.specs.Links.{lastBelow}
 use Rattle.arrangement.specs.Arrangement.{Planted, SiblingsStand, Inserts}
 use Rattle.coding.specs.Writing.{Prepared, TreeAsked}

@@ -3,7 +3,7 @@ use mathlib.Core.Path.{_≡_}
 use mathlib.Core.List.{List, map}
 use Prim.Native.Nat.{ℕ, _-_, _≤_}
 use lib.ListN.{length, take}
-use Rattle.lists.specs.Select.{each, gather}
+use Rattle.lists.specs.Select.{gather}
 use Rattle.patterns.specs.Component.{points, flat}
 use Rattle.patterns.specs.Table.{systemOfTable}
 use Rattle.patterns.specs.MapOf.{mapOf}

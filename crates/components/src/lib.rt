@@ -17,7 +17,6 @@ ghost use lib.ListN.{length, take, drop};
 ghost use Rattle.lists.specs.Order.{lex, atMost};
 ghost use Rattle.lists.specs.Select.{each};
 ghost use Rattle.lists.specs.Blocks.{orderingOf};
-ghost use Rattle.patterns.specs.Tree.{code};
 ghost use Rattle.patterns.specs.Component.{Component, flat, compareComponent, rotations, validComponent};
 ghost use Rattle.memory.specs.Memory.{Held};
 ghost use Rattle.components.specs.Climbs.{HeldBeside, HeldMerge, Climbed};

@@ -1,6 +1,5 @@
 -- Distances that are noted: found by stepping to the first noted point, and noted along the same way.
-use mathlib.Core.Path.{_≡_, refl, ap, sym, subst, _∙_}
-use mathlib.Core.Bool.{true, false}
+use mathlib.Core.Path.{_≡_, refl, ap, sym, _∙_}
 use mathlib.Core.List.{List}
 use Prim.Native.Nat.{ℕ, suc, _+_, _-_, _≤_, _<_}
 use native.Mathlib.Omega.{arith}
@@ -8,8 +7,8 @@ use lib.Dec.{eqb}
 use borrow.Author.Tests.{eqb-true, eqb-false}
 use lib.ListN.{length, getD, set, length-set}
 use lib.Seq.{getD-set-same, getD-set-other}
-use Rattle.lists.proofs.Tests.{by-test, no-both}
-use Rattle.patterns.specs.Table.{image, isTable, onCycle}
+use Rattle.lists.proofs.Tests.{by-test}
+use Rattle.patterns.specs.Table.{image, onCycle}
 use Rattle.patterns.specs.Census.{height}
 use Rattle.tables.specs.Tables.{Table}
 use Rattle.map_theory.proofs.Maxima.{heightTo, heightTo-start, heightTo-taken, heightTo-passed, heightTo-all}

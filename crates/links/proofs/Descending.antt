@@ -14,7 +14,6 @@ use Rattle.patterns.specs.Table.{image, onCycle, leadsCycle}
 use Rattle.links.specs.Leads.{Descends, Lesser, Leads}
 use Rattle.map_theory.proofs.Orbits.{iterate, iterate-add, of-orbit, onCycle-moves, onCycle-back, iterate-inside}
 use Rattle.map_theory.proofs.Leaders.{cycle-period, in-cycle, leads-onCycle, leads-least, least-leads}
-use Rattle.cycles.proofs.Marks.{inside}
 
 module _ (n : ℕ) (f : ℕ → ℕ) where
   -- back at x, and only greater points on the way: x leads its cycle

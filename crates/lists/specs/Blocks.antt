@@ -1,6 +1,6 @@
 -- What the functions of this crate mean: the answer of a comparison, and two neighbouring blocks exchanged.
 use mathlib.Core.List.{List, _++_}
-use Prim.Native.Nat.{ℕ, _-_, Ordering, Ordering·lt, Ordering·eq, Ordering·gt}
+use Prim.Native.Nat.{ℕ, Ordering, Ordering·lt, Ordering·eq, Ordering·gt}
 use lib.ListN.{take, drop}
 use lib.Seq.{slice}
 use Rattle.lists.specs.declared.Order.{Order}

@@ -8,7 +8,6 @@ ghost use Rattle.patterns.specs.Tree.{Tree, code};
 ghost use Rattle.patterns.specs.Component.{Component, flat, points as pointsOf};
 ghost use Rattle.patterns.specs.System.{System};
 ghost use Rattle.patterns.specs.MapOf.{innerImages, cycleImages, mapOf};
-ghost use Rattle.patterns.specs.Table.{image};
 ghost use Rattle.written.specs.Putting.{placed};
 ghost use Rattle.memory.specs.Memory.{Holds, Stands};
 ghost use Rattle.mapping.specs.Images.{TreeStands, ComponentStands, MapAsked};

@@ -5,9 +5,9 @@ use mathlib.Core.List.{List, [], _∷_, _++_}
 use Prim.Native.Nat.{ℕ, zero, suc, _+_, _≤_}
 use native.Mathlib.Omega.{arith}
 use lib.ListN.{drop, replicate}
-use Rattle.patterns.specs.Tree.{Tree, point, merge, size, below, code, branches, graftOn, compareTree, lastAtMost, validTree}
+use Rattle.patterns.specs.Tree.{Tree, point, merge, size, code, branches, graftOn, compareTree, lastAtMost, validTree}
 use Rattle.patterns.specs.Component.{Component, flat}
-use Rattle.patterns.proofs.Trees.{below-branches, code-injective, graft-branches, merge-valid}
+use Rattle.patterns.proofs.Trees.{below-branches, graft-branches, merge-valid}
 use Rattle.memory.specs.Memory.{Held, HeldTree}
 use Rattle.component_theory.proofs.Generation.{cycle-points}
 use Rattle.trees.specs.Beginnings.{lastStart, leadingPoints, star}

@@ -2,7 +2,6 @@ use mathlib.Core.Path.{sym, _∙_}
 use mathlib.Core.Logic.{⊎-elim}
 use Prim.Native.Nat.{_-_}
 use native.Mathlib.Omega.{arith}
-use borrow.Author.Needs.{needs}
 use lib.ListN.{length, getD, length-set}
 use Rattle.cycles.proofs.Leaves.{TakenOff, none-taken, queue-within, head-place, head-inside, next-place, next-some, next-room, next-joins, next-waits}
 use Rattle.cycles.proofs.Pruning.{all-taken}

@@ -1,9 +1,8 @@
 use denote.Ref.{now}
-use mathlib.Core.Path.{sym}
-use Prim.Native.Nat.{_≤_, _<_}
+use Prim.Native.Nat.{_<_}
 use native.Mathlib.Omega.{arith}
 use borrow.Author.Needs.{needs}
-use lib.ListN.{length, getD}
+use lib.ListN.{length}
 use Rattle.distances.specs.Noted.{distanceIn, NotedTable}
 use Rattle.distances.proofs.Noting.{Stepping, near, further, stepping-start, stepping-next, stepping-end}
 use Rattle.distances.proofs.distance.Statement.{statement}

@@ -1,10 +1,6 @@
-use denote.Ref.{now}
 use mathlib.Core.Path.{sym}
-use mathlib.Core.List.{List}
-use Prim.Native.Nat.{ℕ}
 use native.Mathlib.Omega.{arith}
 use borrow.Author.Needs.{needs}
-use lib.ListN.{length}
 use lib.Seq.{length-take-le}
 use Rattle.cycles.proofs.Marks.{marks-within, marks-back}
 use Rattle.distances.proofs.height.Statement.{statement}

@@ -1,8 +1,6 @@
-use denote.Ref.{now}
 use mathlib.Core.Path.{sym, _∙_}
 use native.Mathlib.Omega.{arith}
 use borrow.Author.Needs.{needs}
-use lib.ListN.{length}
 use Rattle.distances.proofs.Noting.{NotingWay, near, noting-start, noting-byte, noting-next, noting-end}
 use Rattle.distances.proofs.note_way.Statement.{statement}
 use Rattle.distances.proofs.note_way.Tie as tie
