@@ -1,25 +1,19 @@
--- The map of a system in memory, and of a written code.
-use mathlib.Core.Path.{_≡_, refl, ap, sym, _∙_, subst}
-use mathlib.Core.List.{List, _++_, map}
-use Prim.Native.Nat.{ℕ, _+_, _≤_}
+-- The map of a system in memory.
+use mathlib.Core.Path.{_≡_, ap, sym, _∙_, subst}
+use mathlib.Core.List.{List, _++_}
+use Prim.Native.Nat.{ℕ, _≤_}
 use native.Mathlib.Omega.{arith}
 use lib.ListN.{length, take, length-append}
 use lib.Seq.{take-at, length-take-le}
-use Rattle.patterns.specs.declared.Refusal.{Refusal}
 use Rattle.patterns.specs.System.{System}
-use Rattle.patterns.specs.Written.{written}
 use Rattle.patterns.specs.MapOf.{mapOf}
-use Rattle.patterns.specs.Reading.{fault, accepted}
-use Rattle.patterns.specs.Replies.{Answer, refused, numberOf}
-use Rattle.patterns.specs.Entry.{gives, Replied, mapOfCode}
-use Rattle.memory.specs.Memory.{Holds}
-use Rattle.memory.specs.Memory.{HeldSystem}
+use Rattle.patterns.specs.Replies.{Answer}
+use Rattle.patterns.specs.Entry.{gives, Replied}
+use Rattle.memory.specs.Memory.{Holds, HeldSystem}
 use Rattle.memory.proofs.Parts.{held-points}
 use Rattle.mapping.specs.Images.{MapAsked}
 use Rattle.map_theory.proofs.MapOf.{length-mapOf}
-use Rattle.acceptance.proofs.Taken.{Taken}
 
--- The map of a system in memory.
 module _ {sizes trees : List ℕ} (h : HeldSystem sizes trees) where
   pub table-small : length trees ≤ 200
   table-small = omega (arith, held-points (h .holds), h .small)
@@ -39,13 +33,3 @@ module _ {sizes trees : List ℕ} (h : HeldSystem sizes trees) where
         → (S : System) → Holds S sizes trees → Replied (gives (mapOf S)) before a after
     map-put {before} {after} {a} p S k =
         subst (λ l. Replied (gives l) before a after) (take-at table rest (length trees) table-length ∙ w S k) p
-
--- The map of a written code.
-pub map-of-refused : (b before : List ℕ) (c : Refusal) → accepted b ≡ fault c → Replied (mapOfCode b) before (refused (numberOf c)) before
-unfolding mapOfCode
-map-of-refused b before c e = rw e (record { reply = refl; output = refl })
-
-pub map-of-put : {b sizes trees : List ℕ} {m n : ℕ} → Taken b sizes trees m n → {before after : List ℕ} {a : Answer}
-    → ((S : System) → Holds S (take m sizes) (take n trees) → Replied (gives (mapOf S)) before a after) → Replied (mapOfCode b) before a after
-unfolding mapOfCode
-map-of-put t p = rw (t .is) (p (t .system) (t .holds))

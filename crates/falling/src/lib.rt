@@ -8,18 +8,19 @@ ghost use mathlib.Core.Path.{_≡_};
 ghost use mathlib.Core.List.{[], _∷_, map};
 ghost use lib.ListN.{getD};
 ghost use Rattle.lists.specs.Order.{same};
+ghost use Rattle.lists.specs.Select.{leftOf};
 ghost use Rattle.patterns.specs.System.{System};
 ghost use Rattle.patterns.specs.Component.{Component, points, compareComponent};
 ghost use Rattle.component_theory.specs.Successor.{predecessor as predecessorOf};
 ghost use Rattle.system_theory.specs.StepBack.{lasts, fall as fallOf};
 ghost use Rattle.memory.specs.Memory.{Holds};
 ghost use Rattle.bumping.specs.HeldBumps.{HeldAhead, Advanced, HeldCanonical, Bumped};
-ghost use Rattle.falling.specs.HeldFalls.{leftOf, HeldComponent};
+ghost use Rattle.falling.specs.HeldFalls.{HeldComponent};
 
-// Whether component i, which begins at place `at` of the trees, is its left neighbour again.
+// Whether component i, which begins at place `at` of the trees, is its left neighbour again; the first has none.
 fn repeats(sizes: &[u8], trees: &[u8], i: usize, at: usize) -> bool
     requires { ⌜ HeldComponent (now sizes) (now trees) i at ⌝ }
-    ensures { λ r. ⌜ ((S : System) → Holds S (now (sizes .entry)) (now (trees .entry)) → r ≡ same compareComponent (leftOf S i) (getD S i [])) ⌝ }
+    ensures { λ r. ⌜ ((S : System) → Holds S (now (sizes .entry)) (now (trees .entry)) → r ≡ same compareComponent (leftOf [] [] S i) (getD S i [])) ⌝ }
 {
     if i == 0 {
         return false;

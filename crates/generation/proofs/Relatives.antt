@@ -11,7 +11,7 @@ use Rattle.lists.proofs.Members.{lawful-decides}
 use Rattle.lists.proofs.Places.{place-index}
 use Rattle.patterns.specs.Component.{Component, flat, validComponent}
 use Rattle.patterns.specs.Generation.{hasParent, parent, candidates}
-use Rattle.patterns.proofs.Trees.{compareComponent-lawful, length-flat, flat-injective}
+use Rattle.patterns.proofs.Trees.{compareComponent-lawful, length-flat}
 use Rattle.components.specs.Climbs.{Climbed}
 use Rattle.component_theory.specs.Successor.{firstChild, nextSibling, opening}
 use Rattle.components.specs.declared.Climb.{Climb}
@@ -24,14 +24,8 @@ use Rattle.component_theory.proofs.ChildPlaces.{firstChild-place, lastChild-pla
 use Rattle.component_theory.proofs.Generation.{length-points, valid-positive}
 use Rattle.children.specs.Candidates.{Gave}
 use Rattle.scanning.specs.HeldNodes.{Node, PlaceIn}
-use Rattle.scanning.proofs.Scanning.{gave-path, gave-nothing}
+use Rattle.scanning.proofs.Scanning.{gave-path, gave-nothing, node-trees, node-valid}
 use Rattle.generation.specs.Siblings.{ChildKey, childBeside}
-
-node-trees : {s : List ℕ} (p : Node s) (c : Component) → s ≡ flat c → p .trees ≡ c
-node-trees p c e = flat-injective (p .trees) c (sym (p .is) ∙ e)
-
-node-valid : {s : List ℕ} (p : Node s) (c : Component) → s ≡ flat c → validComponent c ≡ true
-node-valid p c e = subst (λ d. validComponent d ≡ true) (node-trees p c e) (p .valid)
 
 -- The end of the candidates: twice the pairs, of which there is one less than trees.
 module _ {s : List ℕ} (p : Node s) (m : ℕ) (counted : (c : Component) → s ≡ flat c → m ≡ length c) where
@@ -87,10 +81,11 @@ module _ {s x : List ℕ} {k : ℕ} (v : Raised s x k) where
       record { trees = parent (p .trees); is = u .1; valid = parent-valid (p .trees) (p .valid) (u .0); small = omega (arith, p .small, v .same) }
 
   pub up-key : ChildKey x k
+  unfolding up-node
   up-key d e =
       let c = p .trees in
       let u = v .up c (p .is) in
-      let q : d ≡ parent c = flat-injective d (parent c) (sym e ∙ u .1) in
+      let q : parent c ≡ d = node-trees up-node d e in
       omega (arith, ap (λ z. length (candidates z)) q, u .2, (place-index (lawful-decides compareComponent-lawful) c (in-candidates c (u .0))) .0)
 
   after-key : (forward : Bool) (c : Component) → s ≡ flat c → childBeside forward (parent c) k ≡ nextSibling forward c

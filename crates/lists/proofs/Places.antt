@@ -1,14 +1,15 @@
--- Places in lists: where an entry stands, what stands from there on and what comes next; entries by index; ranges of numbers; how often a number stands in a list.
+-- Places in lists: where an entry stands, what stands from there on and what comes next; entries by index, and the one to the left; ranges of numbers;
+-- how often a number stands in a list.
 use mathlib.Core.Path.{_≡_, refl, ap, ap₂, sym, _∙_}
 use mathlib.Core.List.{List, [], _∷_, _++_, List·Memᴰ·head, List·Memᴰ·tail}
 use mathlib.Core.Bool.{false}
-use Prim.Native.Nat.{ℕ, zero, suc, _+_, _≤_, _<_, Ordering, compare}
+use Prim.Native.Nat.{ℕ, zero, suc, _+_, _-_, _≤_, _<_, Ordering, compare}
 use native.Mathlib.Numerals.{add-one}
 use native.Mathlib.Omega.{arith}
-use lib.ListN.{length, drop, getD, length-append}
-use lib.Seq.{drop-cons, getD-append-seam}
+use lib.ListN.{length, take, drop, getD, length-append}
+use lib.Seq.{drop-cons, length-take-le, getD-take, getD-append-seam}
 use Rattle.lists.specs.Order.{same}
-use Rattle.lists.specs.Select.{first, next, place, from, range, times}
+use Rattle.lists.specs.Select.{first, next, leftOf, place, from, range, times}
 use Rattle.lists.proofs.Tests.{_∈_, by-test, either, no-both}
 use Rattle.lists.proofs.Members.{Decides, NoDup, one, empty, compare-decides, in-head, in-tail, in-moved, in-cons-cases, not-in-nil, in-or-not}
 
@@ -89,6 +90,17 @@ module _ {A : Type 0} where
     -- equal places, equal members
     pub place-injective : {x y : A} {l : List A} → x ∈ l → y ∈ l → place c x l ≡ place c y l → x ≡ y
     place-injective {x} {y} {l} m k e = sym ((place-index x m) .1) ∙ ap (λ i. getD l i x) e ∙ (place-index x k) .1
+
+-- To the left of a place.
+module _ {A : Type 0} (d a : A) (l : List A) (i : ℕ) where
+  pub left-entry : 0 < i → leftOf d a l i ≡ getD l (i - 1) d
+  left-entry h =
+      let e : i ≡ suc (i - 1) = omega arith in
+      ap (leftOf d a l) e
+
+  -- the last of the entries before it
+  pub left-taken : i ≤ length l → leftOf d a (take i l) (length (take i l)) ≡ leftOf d a l i
+  left-taken h = ap (leftOf d a (take i l)) (length-take-le i l h) ∙ getD-take (suc i) (a ∷ l) i d (omega arith)
 
 -- Ranges of numbers.
 pub range-length : (a k : ℕ) → length (range a k) ≡ k

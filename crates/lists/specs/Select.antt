@@ -62,6 +62,10 @@ next c x (y ∷ l) =
 abbrev pub previous : {A : Type 0} → (A → A → Ordering) → A → List A → Option A
 previous c x l = next c x (reverse l)
 
+-- what stands to the left of place i, where a stands to the left of the first; d is read past the end
+abbrev pub leftOf : {A : Type 0} → A → A → List A → ℕ → A
+leftOf d a l i = getD (a ∷ l) i d
+
 -- how many entries stand before the first x (all of them, where x is not there)
 abbrev pub place : {A : Type 0} → (A → A → Ordering) → A → List A → ℕ
 place c x [] = 0

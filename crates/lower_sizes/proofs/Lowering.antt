@@ -9,28 +9,18 @@ use lib.Dec.{ltb}
 use lib.ListN.{length, take, getD, set, length-set}
 use lib.Seq.{take-suc, take-suc-set, append-snoc, length-take-le, getD-take}
 use borrow.Author.Tests.{lt-ltb, le-ltb, lt-leb, le-leb, ltb-true}
-use Rattle.lists.specs.Select.{each}
+use Rattle.lists.specs.Select.{each, leftOf}
 use Rattle.lists.proofs.Tests.{and-true, each-member, each-append}
 use Rattle.lists.proofs.Permute.{total-append}
-use Rattle.lists.proofs.Places.{in-index}
+use Rattle.lists.proofs.Places.{in-index, left-taken}
 use Rattle.system_theory.specs.StepBack.{lowerSizes, previousSizes}
 use Rattle.system_theory.proofs.BackScan.{previousSizes-pass, previousSizes-at}
 use Rattle.size_lists.specs.SizesHeld.{sum, SizesIn, NextIn}
 use Rattle.size_lists.proofs.Growing.{count-sum}
-use Rattle.lower_sizes.specs.LastSize.{leftOf, LastWhole}
+use Rattle.lower_sizes.specs.LastSize.{LastWhole}
 
--- The number to the left.
-
--- the number at place i - 1
-pub left-is : (sizes : List ℕ) (i : ℕ) → 0 < i → getD sizes (i - 1) 0 ≡ leftOf sizes i
-left-is sizes i h =
-    let e : suc (i - 1) ≡ i = omega arith in
-    ap (leftOf sizes) e
-
-left-within : (sizes : List ℕ) (i : ℕ) → i ≤ length sizes → getD (1 ∷ take i sizes) (length (take i sizes)) 0 ≡ leftOf sizes i
-left-within sizes i h = ap (λ k. getD (1 ∷ take i sizes) k 0) (length-take-le i sizes h) ∙ getD-take (suc i) (1 ∷ sizes) i 0 (omega arith)
-
-left-positive : (sizes : List ℕ) (m i : ℕ) → SizesIn sizes m → i < m → 0 < leftOf sizes i
+-- the number to the left is positive
+left-positive : (sizes : List ℕ) (m i : ℕ) → SizesIn sizes m → i < m → 0 < leftOf 0 1 sizes i
 left-positive sizes m zero s h = omega arith
 left-positive sizes m (suc i) s h =
     let n : i < length (take m sizes) = omega (arith, length-take-le m sizes (s .within)) in
@@ -72,13 +62,13 @@ two-written sizes i j k a b e f h =
 
 -- the number at place i, with the numbers l to its right, gives way to a and b
 module _ (sizes : List ℕ) (m i : ℕ) (l : List ℕ) (a b : ℕ) (p : take m sizes ≡ take i sizes ++ (getD sizes i 0 ∷ l)) where
-  given-way : i ≤ length sizes → previousSizes (getD sizes i 0) l ≡ none → lowerSizes (leftOf sizes i) (getD sizes i 0) l ≡ some (a ∷ b ∷ [])
+  given-way : i ≤ length sizes → previousSizes (getD sizes i 0) l ≡ none → lowerSizes (leftOf 0 1 sizes i) (getD sizes i 0) l ≡ some (a ∷ b ∷ [])
       → previousSizes 1 (take m sizes) ≡ some (take i sizes ++ (a ∷ b ∷ []))
   given-way h e f =
       ap (previousSizes 1) p
-      ∙ previousSizes-at 0 1 (take i sizes) (getD sizes i 0) l (a ∷ b ∷ []) e (ap (λ x. lowerSizes x (getD sizes i 0) l) (left-within sizes i h) ∙ f)
+      ∙ previousSizes-at 0 1 (take i sizes) (getD sizes i 0) l (a ∷ b ∷ []) e (ap (λ x. lowerSizes x (getD sizes i 0) l) (left-taken 0 1 sizes i h) ∙ f)
 
-  gives-way : previousSizes (getD sizes i 0) l ≡ none → lowerSizes (leftOf sizes i) (getD sizes i 0) l ≡ some (a ∷ b ∷ [])
+  gives-way : previousSizes (getD sizes i 0) l ≡ none → lowerSizes (leftOf 0 1 sizes i) (getD sizes i 0) l ≡ some (a ∷ b ∷ [])
       → (j k : ℕ) → j ≡ suc i → k ≡ suc j → j < length sizes → NextIn (previousSizes 1 (take m sizes)) k (set (set sizes i a) j b)
   gives-way e f j k q r h =
       rw (given-way (omega arith) e f) (omega arith, simp length-set (omega arith), two-written sizes i j k a b q r h)
@@ -93,7 +83,7 @@ module _ {sizes : List ℕ} {m : ℕ} (s : SizesIn sizes m) (i : ℕ) (e : m ≡
   last-apart = ap (λ k. take k sizes) e ∙ take-suc sizes i 0 (omega (arith, s .within))
 
   -- there is a place more for it
-  pub half-room : leftOf sizes i + leftOf sizes i ≤ last → m < length sizes
+  pub half-room : leftOf 0 1 sizes i + leftOf 0 1 sizes i ≤ last → m < length sizes
   half-room h =
       let l = take i sizes in
       let p = and-true (each (ltb 0) l) (each (ltb 0) (last ∷ [])) (sym (each-append (ltb 0) l (last ∷ [])) ∙ ap (each (ltb 0)) (sym last-apart) ∙ s .positive) in
@@ -108,13 +98,13 @@ module _ {sizes : List ℕ} {m : ℕ} (s : SizesIn sizes m) (i : ℕ) (e : m ≡
       )
 
   -- the lesser half stands first
-  pub half-written : leftOf sizes i + leftOf sizes i ≤ last → (a b k : ℕ) → a ≡ last / 2 → b ≡ last - last / 2 → k ≡ suc m
+  pub half-written : leftOf 0 1 sizes i + leftOf 0 1 sizes i ≤ last → (a b k : ℕ) → a ≡ last / 2 → b ≡ last - last / 2 → k ≡ suc m
       → NextIn (previousSizes 1 (take m sizes)) k (set (set sizes i a) m b)
   half-written h a b k p q r =
-      gives-way sizes m i [] a b last-apart (nothing-before last) (rw (p, q) (half-some (leftOf sizes i) last h)) m k e r (half-room h)
+      gives-way sizes m i [] a b last-apart (nothing-before last) (rw (p, q) (half-some (leftOf 0 1 sizes i) last h)) m k e r (half-room h)
 
   -- it is not parted
-  pub last-whole : last < leftOf sizes i + leftOf sizes i → LastWhole sizes i last
+  pub last-whole : last < leftOf 0 1 sizes i + leftOf 0 1 sizes i → LastWhole sizes i last
   last-whole h =
       let f : m ≡ i + 1 = omega arith in
       record { held = rw f at s; is = refl; whole = h }
@@ -130,7 +120,7 @@ pub record Lowering (before : List ℕ) (m : ℕ) (sizes : List ℕ) (i rest : �
   pub parts : take m sizes ≡ take i sizes ++ right
   pub some-right : 0 < length right
   pub is : rest ≡ sum right
-  pub stays : previousSizes (leftOf sizes i) right ≡ none
+  pub stays : previousSizes (leftOf 0 1 sizes i) right ≡ none
 
 pub lowering-start : {sizes : List ℕ} {i last : ℕ} → LastWhole sizes i last → Lowering sizes (i + 1) sizes i last
 lowering-start {sizes} {i} {last} w =
@@ -142,7 +132,7 @@ lowering-start {sizes} {i} {last} w =
       parts = rw (w .is) (last-apart (w .held) i (add-one i));
       some-right = omega arith;
       is = omega arith;
-      stays = previousSizes-pass (leftOf sizes i) last [] (nothing-before last) (half-none (leftOf sizes i) last (w .whole));
+      stays = previousSizes-pass (leftOf 0 1 sizes i) last [] (nothing-before last) (half-none (leftOf 0 1 sizes i) last (w .whole));
     }
 
 module _ {before : List ℕ} {m : ℕ} {sizes : List ℕ} {i rest : ℕ} (w : Lowering before m sizes i rest) where
@@ -157,7 +147,7 @@ module _ {before : List ℕ} {m : ℕ} {sizes : List ℕ} {i rest : ℕ} (w : Lo
     apart = w .parts ∙ rw (e, take-suc sizes j 0 (omega (arith, within))) (append-snoc (take j sizes) size (w .right))
 
     stays-right : previousSizes size (w .right) ≡ none
-    stays-right = ap (λ k. previousSizes (leftOf sizes k) (w .right)) (sym e) ∙ w .stays
+    stays-right = ap (λ k. previousSizes (leftOf 0 1 sizes k) (w .right)) (sym e) ∙ w .stays
 
     -- the number at the next place is positive, and the sums are small
     pub lowering-positive : 0 < size
@@ -168,7 +158,7 @@ module _ {before : List ℕ} {m : ℕ} {sizes : List ℕ} {i rest : ℕ} (w : Lo
         omega (arith, w .is, w .held .room, w .held .small, ap sum apart, total-append (λ x. x) (take j sizes) (size ∷ w .right))
 
     -- it cannot fall
-    pub lowering-next : size ≤ leftOf sizes j → (r : ℕ) → r ≡ rest + size → Lowering before m sizes j r
+    pub lowering-next : size ≤ leftOf 0 1 sizes j → (r : ℕ) → r ≡ rest + size → Lowering before m sizes j r
     lowering-next h r f =
         record {
           same = w .same;
@@ -178,21 +168,21 @@ module _ {before : List ℕ} {m : ℕ} {sizes : List ℕ} {i rest : ℕ} (w : Lo
           parts = apart;
           some-right = omega arith;
           is = omega (arith, w .is);
-          stays = previousSizes-pass (leftOf sizes j) size (w .right) stays-right (fall-none (leftOf sizes j) size (w .right) (w .some-right) h);
+          stays = previousSizes-pass (leftOf 0 1 sizes j) size (w .right) stays-right (fall-none (leftOf 0 1 sizes j) size (w .right) (w .some-right) h);
         }
 
     -- it falls
-    pub lowering-found : leftOf sizes j < size → (a b k : ℕ) → a ≡ size - 1 → b ≡ rest + 1 → k ≡ suc (j + 1)
+    pub lowering-found : leftOf 0 1 sizes j < size → (a b k : ℕ) → a ≡ size - 1 → b ≡ rest + 1 → k ≡ suc (j + 1)
         → NextIn (previousSizes 1 (take m before)) k (set (set sizes j a) (j + 1) b)
     lowering-found h a b k p q r =
         let f : b ≡ suc (sum (w .right)) = omega (arith, w .is) in
         rw (← w .same)
-        (gives-way sizes m j (w .right) a b apart stays-right (rw (p, f) (fall-some (leftOf sizes j) size (w .right) (w .some-right) h))
+        (gives-way sizes m j (w .right) a b apart stays-right (rw (p, f) (fall-some (leftOf 0 1 sizes j) size (w .right) (w .some-right) h))
         (j + 1) k (add-one j) r (omega (arith, within)))
 
   -- no number can fall
   pub lowering-end : i ≡ 0 → NextIn (previousSizes 1 (take m before)) 0 sizes
   lowering-end e =
       let p : take m sizes ≡ w .right = w .parts ∙ ap (λ k. take k sizes ++ w .right) e in
-      let q : previousSizes 1 (w .right) ≡ none = ap (λ k. previousSizes (leftOf sizes k) (w .right)) (sym e) ∙ w .stays in
+      let q : previousSizes 1 (w .right) ≡ none = ap (λ k. previousSizes (leftOf 0 1 sizes k) (w .right)) (sym e) ∙ w .stays in
       rw (← w .same, p, q) refl

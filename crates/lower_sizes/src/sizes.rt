@@ -3,14 +3,15 @@ ghost use denote.Ref.{now};
 ghost use mathlib.Core.Path.{_≡_};
 ghost use Prim.Native.Nat.{_+_, _≤_, _<_};
 ghost use lib.ListN.{length, take};
+ghost use Rattle.lists.specs.Select.{leftOf};
 ghost use Rattle.system_theory.specs.StepBack.{previousSizes};
 ghost use Rattle.size_lists.specs.SizesHeld.{SizesIn, NextIn};
-ghost use Rattle.lower_sizes.specs.LastSize.{leftOf, LastWhole};
+ghost use Rattle.lower_sizes.specs.LastSize.{LastWhole};
 
 // The number to the left of place i, and 1 to the left of the first.
 fn left_of(sizes: &[u8], i: usize) -> usize
     requires { ⌜ i ≤ length (now sizes) ⌝ }
-    ensures { λ r. ⌜ (r ≡ leftOf (now (sizes .entry)) i) × (r < 256) ⌝ }
+    ensures { λ r. ⌜ (r ≡ leftOf 0 1 (now (sizes .entry)) i) × (r < 256) ⌝ }
 {
     if i == 0 {
         return 1;

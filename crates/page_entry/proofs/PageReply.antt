@@ -5,7 +5,7 @@ use mathlib.Core.List.{List}
 use Prim.Native.Nat.{ℕ, _*_, _≤_, _<_}
 use native.Mathlib.Omega.{arith}
 use lib.Dec.{ltb}
-use lib.ListN.{length, take, length-take}
+use lib.ListN.{length, take}
 use borrow.Author.Tests.{lt-ltb, le-ltb, le-leb, lt-leb, ltb-true, ltb-false}
 use Rattle.patterns.specs.declared.Refusal.{Refusal}
 use Rattle.patterns.specs.System.{System}
@@ -15,8 +15,9 @@ use Rattle.patterns.specs.Page.{successors, pageBytes, pageOf, PageReplied}
 use Rattle.memory.specs.Memory.{Holds}
 use Rattle.memory.proofs.Parts.{held-points}
 use Rattle.form_theory.proofs.PageBytes.{page-fits}
-use Rattle.acceptance.proofs.Taken.{Taken, taken-count, taken-points}
-use Rattle.stepping.proofs.Following.{held-next, next-canonical}
+use Rattle.acceptance.proofs.Taken.{Taken, taken-points}
+use Rattle.stepping.proofs.Following.{next-canonical}
+use Rattle.step_replies.proofs.StepReplies.{taken-next}
 use Rattle.paging.specs.HeldPages.{PageRoom, PagePut}
 use Rattle.page_entry.specs.HeldCopies.{HeldCopies}
 
@@ -63,9 +64,7 @@ module _ {wanted : ℕ} (few : wanted ≤ 1000) where
   -- The code is accepted.
   module _ {b sizes trees : List ℕ} {m n : ℕ} (t : Taken b sizes trees m n) where
     pub taken-copies : length sizes ≡ 200 → length trees ≡ 200 → HeldCopies sizes m trees n wanted
-    taken-copies u v =
-        let held = held-next (t .holds) (t .canonical-is) (taken-count t) u (omega (arith, length-take n trees)) in
-        record { held = held; within = taken-points t; few = few }
+    taken-copies u v = record { held = taken-next t u v; within = taken-points t; few = few }
 
     pub taken-replied : {before after : List ℕ} {a : PageAnswer}
         → ((S : System) → Holds S (take m sizes) (take n trees) → PageReplied (done (successors wanted S)) before a after) → PageReplied (pageOf wanted b) before a after

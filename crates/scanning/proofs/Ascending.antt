@@ -12,7 +12,7 @@ use Rattle.component_theory.specs.ChildPlaces.{childAt, childFrom}
 use Rattle.component_theory.proofs.ChildPlaces.{childFrom-step, childFrom-end, childFrom-lefts, childFrom-past, length-candidates}
 use Rattle.children.specs.Candidates.{Gave}
 use Rattle.scanning.specs.HeldNodes.{HeldScan, Passed}
-use Rattle.scanning.proofs.Scanning.{Scanned, passed-all, scan-valid, candidates-count, scan-merge}
+use Rattle.scanning.proofs.Scanning.{Scanned, passed-all, node-valid, candidates-count, scan-merge}
 
 module _ {s : List ℕ} {n h : ℕ} {out : List ℕ} (p : HeldScan s n h out) where
   -- one place on
@@ -33,7 +33,7 @@ module _ {s : List ℕ} {n h : ℕ} {out : List ℕ} (p : HeldScan s n h out) wh
     left-late a b =
         let q = scan-merge p c e (omega arith) in
         passed-all c k n x
-        (f .passed c e ∙ childFrom-lefts c (scan-valid p c e) n (candidates-count p c e) h (q .0) (q .1) (q .2) (q .3) j a (omega arith))
+        (f .passed c e ∙ childFrom-lefts c (node-valid (p .node) c e) n (candidates-count p c e) h (q .0) (q .1) (q .2) (q .3) j a (omega arith))
 
     pub left-end : j ≡ n → Passed childFrom c k n false x
     left-end a = passed-all c k n x (f .passed c e ∙ ap (childFrom c) a)
@@ -44,7 +44,7 @@ module _ {s : List ℕ} {n h : ℕ} {out : List ℕ} (p : HeldScan s n h out) wh
     right-late a b =
         let q = scan-merge p c e (omega arith) in
         subst (λ o. Gave o false x)
-        (sym (f .passed c e ∙ childFrom-past c (scan-valid p c e) n (candidates-count p c e) h (q .0) (q .1) (q .2) (q .3) (n + j) (omega arith)))
+        (sym (f .passed c e ∙ childFrom-past c (node-valid (p .node) c e) n (candidates-count p c e) h (q .0) (q .1) (q .2) (q .3) (n + j) (omega arith)))
         refl
 
     pub right-end : n ≤ j → Gave (childFrom c k) false x

@@ -18,7 +18,7 @@ use Rattle.component_theory.proofs.ChildPlaces.{childBefore-start, childBefore-
 use Rattle.component_theory.proofs.Generation.{length-points}
 use Rattle.children.specs.Candidates.{Gave}
 use Rattle.scanning.specs.HeldNodes.{PlaceIn, HeldScan, Passed, Lesser}
-use Rattle.scanning.proofs.Scanning.{Scanned, passed-all, scan-valid, candidates-count, scan-merge}
+use Rattle.scanning.proofs.Scanning.{Scanned, passed-all, node-valid, candidates-count, scan-merge}
 
 -- one place down
 pub left-down : (c : Component) (i : ℕ) → 0 < i → childBefore c i ≡ otherwise (first (childAt c (i - 1))) (childBefore c (i - 1))
@@ -73,7 +73,7 @@ module _ {s : List ℕ} {n h : ℕ} {out : List ℕ} (p : HeldScan s n h out) {r
       beyond q o =
           let g = scan-merge p c e (omega (arith, reach .left)) in
           ap (childBefore c) (q ∙ o)
-          ∙ sym (childBefore-lefts c (scan-valid p c e) n (candidates-count p c e) h (g .0) (g .1) (g .2) (g .3) to (omega (arith, m .left)) t)
+          ∙ sym (childBefore-lefts c (node-valid (p .node) c e) n (candidates-count p c e) h (g .0) (g .1) (g .2) (g .3) to (omega (arith, m .left)) t)
 
   -- and no right merge
   pub rights-reach : (to i : ℕ) → n < to → PlaceIn s to → Lesser (to - n) r i → childBefore c (n + i) ≡ childBefore c to
@@ -89,4 +89,4 @@ module _ {s : List ℕ} {n h : ℕ} {out : List ℕ} (p : HeldScan s n h out) {r
       beyond q o all =
           let g = scan-merge p c e (omega (arith, reach .left)) in
           ap (λ j. childBefore c (n + j)) (q ∙ o)
-          ∙ sym (childBefore-rights c (scan-valid p c e) n (candidates-count p c e) h (g .0) (g .1) (g .2) (g .3) (to - n) (omega (arith, m .left)) (omega arith))
+          ∙ sym (childBefore-rights c (node-valid (p .node) c e) n (candidates-count p c e) h (g .0) (g .1) (g .2) (g .3) (to - n) (omega (arith, m .left)) (omega arith))

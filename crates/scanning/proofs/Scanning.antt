@@ -47,6 +47,14 @@ merge-after-points [] h = absurd (omega arith)
 merge-after-points (point ∷ c) h = let q = merge-after-points c (omega arith) in (q .0, q .1, q .2, ap (λ l. point ∷ l) (q .3))
 merge-after-points (merge x y ∷ c) h = (x, y, c, refl)
 
+-- the trees of a node are those of any component with the same bytes, which is valid
+module _ {s : List ℕ} (p : Node s) (c : Component) (e : s ≡ flat c) where
+  pub node-trees : p .trees ≡ c
+  node-trees = flat-injective (p .trees) c (sym (p .is) ∙ e)
+
+  pub node-valid : validComponent c ≡ true
+  node-valid = ap validComponent (sym node-trees) ∙ p .valid
+
 module _ {s : List ℕ} {n h : ℕ} {out : List ℕ} (p : HeldScan s n h out) where
   pub pair-at : (i : ℕ) (x : List ℕ) → length x ≡ length out → i < n → i ≤ h → HeldCandidate s i x
   pair-at i x e k l =
@@ -57,19 +65,13 @@ module _ {s : List ℕ} {n h : ℕ} {out : List ℕ} (p : HeldScan s n h out) wh
       }
 
   module _ (c : Component) (e : s ≡ flat c) where
-    trees-are : p .node .trees ≡ c
-    trees-are = flat-injective (p .node .trees) c (sym (p .node .is) ∙ e)
-
-    pub scan-valid : validComponent c ≡ true
-    scan-valid = ap validComponent (sym trees-are) ∙ p .node .valid
-
     pub candidates-count : length c ≡ suc n
-    candidates-count = ap length (sym trees-are) ∙ p .counted
+    candidates-count = ap length (sym (node-trees (p .node) c e)) ∙ p .counted
 
     -- the first tree of more than one point stands after h points
     pub scan-merge : h < n → (x : Tree) × (y : Tree) × (r : Component) × (c ≡ replicate h point ++ (merge x y ∷ r))
     scan-merge k =
-        let l : leadingPoints c ≡ h = ap leadingPoints (sym trees-are) ∙ p .leads in
+        let l : leadingPoints c ≡ h = ap leadingPoints (sym (node-trees (p .node) c e)) ∙ p .leads in
         let q = merge-after-points c (omega (arith, candidates-count)) in
         (q .0, q .1, q .2, q .3 ∙ ap (λ i. replicate i point ++ (merge (q .0) (q .1) ∷ q .2)) l)
 

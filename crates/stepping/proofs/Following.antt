@@ -57,7 +57,7 @@ module _ (walk : System → Option System) {sizes trees : List ℕ} (r : Stepped
       of (some T) p q = let y = sym e ∙ q .0 in let z : k ≡ length T = cc in (T, p, rw z (q .1), sym z)
 
 -- the step keeps canonical and the number of points
-abbrev Keeps : (System → Option System) → Type 0
+abbrev pub Keeps : (System → Option System) → Type 0
 Keeps walk = (S R : System) → canonical S ≡ true → walk S ≡ some R → (canonical R ≡ true) × (weight R ≡ weight S)
 
 module _ {walk : System → Option System} (keeps : Keeps walk) {sizes : List ℕ} {m : ℕ} {trees : List ℕ} (h : HeldNext sizes m trees)

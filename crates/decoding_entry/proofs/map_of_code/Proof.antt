@@ -3,8 +3,8 @@ use mathlib.Core.Path.{sym}
 use mathlib.Core.List.{List}
 use Prim.Native.Nat.{ℕ}
 use lib.Seq.{length-take-le}
-use Rattle.acceptance.proofs.Taken.{Taken, code-taken, code-refused, taken-held, taken-count, taken-points}
-use Rattle.decoding_entry.proofs.MapsPut.{map-of-refused, map-of-put}
+use Rattle.patterns.specs.Entry.{mapOfCode}
+use Rattle.acceptance.proofs.Taken.{Taken, code-taken, code-refused, outcome-refused, outcome-taken, taken-held, taken-count, taken-points}
 use borrow.Author.Needs.{needs}
 use Rattle.decoding_entry.proofs.map_of_code.Statement.{statement}
 use Rattle.decoding_entry.proofs.map_of_code.Tie as tie
@@ -44,13 +44,15 @@ put-map-requires : tie.Need-put-map-requires
 put-map-requires c κs = taken-held (taken (c .before .before .before))
 
 returns : tie.Need-returns
+unfolding mapOfCode
 returns c =
     let k = accepting (c .before .before .before) in
     let told = c .before .cause .given in
-    map-of-refused (code k) (now (start k .args .out)) (told .0 .0) (code-refused (code k) (k .accept-into .ensures) (told .0 .0) (told .1))
+    outcome-refused _ (code k) (now (start k .args .out)) (told .0 .0) (code-refused (code k) (k .accept-into .ensures) (told .0 .0) (told .1))
 
 returns-2 : tie.Need-returns-2
-returns-2 c = map-of-put (taken (c .before .before .before .before .before .before)) (c .before .before .put-map .ensures)
+unfolding mapOfCode
+returns-2 c = outcome-taken (taken (c .before .before .before .before .before .before)) (c .before .before .put-map .ensures)
 
 pub map-of-code-spec : {M : Type 1} → statement M
 map-of-code-spec =

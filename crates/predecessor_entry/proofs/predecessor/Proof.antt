@@ -3,8 +3,9 @@ use mathlib.Core.List.{List}
 use Prim.Native.Nat.{ℕ}
 use native.Mathlib.Omega.{arith}
 use lib.ListN.{length-take}
-use Rattle.acceptance.proofs.Taken.{Taken, code-taken, code-refused, taken-points}
-use Rattle.predecessor_entry.proofs.PreviousPut.{taken-previous, predecessor-refused, predecessor-put}
+use Rattle.patterns.specs.Predecessor.{predecessorOf}
+use Rattle.acceptance.proofs.Taken.{Taken, code-taken, code-refused, outcome-refused, outcome-taken, taken-points}
+use Rattle.step_replies.proofs.StepReplies.{taken-next}
 use borrow.Author.Needs.{needs}
 use Rattle.predecessor_entry.proofs.predecessor.Statement.{statement}
 use Rattle.predecessor_entry.proofs.predecessor.Tie as tie
@@ -35,18 +36,20 @@ slice-aggregate-put-previous-2 : tie.Need-slice-aggregate-put-previous-2
 slice-aggregate-put-previous-2 c = let fits = taken-points (taken (c .before .before)) in rw length-take (omega arith)
 
 put-previous-requires : tie.Need-put-previous-requires
-put-previous-requires c κs = taken-previous (taken (c .before .before .before)) (omega arith) (omega arith)
+put-previous-requires c κs = taken-next (taken (c .before .before .before)) (omega arith) (omega arith)
 
 returns : tie.Need-returns
+unfolding predecessorOf
 returns c =
     let k = accepting (c .before .before .before) in
     let told = c .before .cause .given in
-    predecessor-refused (code k) (now (start k .args .out)) (told .0 .0) (code-refused (code k) (k .accept-into .ensures) (told .0 .0) (told .1))
+    outcome-refused _ (code k) (now (start k .args .out)) (told .0 .0) (code-refused (code k) (k .accept-into .ensures) (told .0 .0) (told .1))
 
 returns-2 : tie.Need-returns-2
+unfolding predecessorOf
 returns-2 c =
     let k = c .before .before .before .before in
-    predecessor-put (taken (k .before .before .before .before)) (k .put-previous .ensures)
+    outcome-taken (taken (k .before .before .before .before)) (k .put-previous .ensures)
 
 pub predecessor-spec : {M : Type 1} → statement M
 predecessor-spec =

@@ -2,7 +2,7 @@ use denote.Ref.{now}
 use Prim.Native.Nat.{_≤_}
 use native.Mathlib.Omega.{arith}
 use lib.ListN.{length, length-take}
-use Rattle.predecessor_entry.proofs.PreviousPut.{previous-within, previous-held, previous-first, previous-put}
+use Rattle.step_replies.proofs.StepReplies.{previous-told, beside-within, beside-held, beside-none, beside-put}
 use borrow.Author.Needs.{needs}
 use Rattle.predecessor_entry.proofs.put_previous.Statement.{statement}
 use Rattle.predecessor_entry.proofs.put_previous.Tie as tie
@@ -22,7 +22,7 @@ within : (c : tie.After-known-told) → c .before .k .given .0 .0 ≤ length (ca
 within c =
     let s = call c .precede in
     let k = c .before .k .given in
-    previous-within (start (call c) .pre) (s .result) (s .last .0) (s .last .1 .1 .0) (s .ensures) (k .0 .0) (k .1) (s .kept .0)
+    beside-within previous-told (start (call c) .pre) (s .result) (s .last .0) (s .last .1 .1 .0) (s .ensures) (k .0 .0) (k .1) (s .kept .0)
 
 enum-known-k : tie.Need-enum-known-k
 enum-known-k c = search needs
@@ -38,7 +38,7 @@ put-system-requires c κs =
     let d = c .before .before .before in
     let s = call d .precede in
     let k = d .before .k .given in
-    previous-held (start (call d) .pre) (s .result) (s .last .0) (s .last .1 .1 .0) (s .ensures) (k .0 .0) (k .1) (s .kept .0)
+    beside-held previous-told (start (call d) .pre) (s .result) (s .last .0) (s .last .1 .1 .0) (s .ensures) (k .0 .0) (k .1) (s .kept .0)
 
 same-length-2 : tie.Need-same-length-2
 same-length-2 c = search needs
@@ -47,7 +47,7 @@ returns : tie.Need-returns
 returns c =
     let k = stepping (c .before .before) in
     let s = k .precede in
-    previous-first (start k .pre) (s .result) (s .last .0) (s .last .1 .1 .0) (s .ensures) (c .enum-told .given .1) (now (start k .args .out))
+    beside-none previous-told (start k .pre) (s .result) (s .last .0) (s .last .1 .1 .0) (s .ensures) (c .enum-told .given .1) (now (start k .args .out))
 
 returns-2 : tie.Need-returns-2
 returns-2 c =
@@ -57,7 +57,7 @@ returns-2 c =
     let k = d .before .k .given in
     λ S h.
     rw (c .as-predecessor .ensures)
-    (previous-put (start (call d) .pre) (s .result) (s .last .0) (s .last .1 .1 .0) (s .ensures) (k .0 .0) (k .1) (put .put-system .ensures) S h)
+    (beside-put previous-told (start (call d) .pre) (s .result) (s .last .0) (s .last .1 .1 .0) (s .ensures) (k .0 .0) (k .1) (put .put-system .ensures) S h)
 
 pub put-previous-spec : {M : Type 1} → statement M
 put-previous-spec =

@@ -2,7 +2,7 @@ use denote.Ref.{now}
 use Prim.Native.Nat.{_≤_}
 use native.Mathlib.Omega.{arith}
 use lib.ListN.{length, length-take}
-use Rattle.successor_entry.proofs.NextPut.{next-within, next-held, next-last, next-put}
+use Rattle.step_replies.proofs.StepReplies.{next-told, beside-within, beside-held, beside-none, beside-put}
 use borrow.Author.Needs.{needs}
 use Rattle.successor_entry.proofs.put_next.Statement.{statement}
 use Rattle.successor_entry.proofs.put_next.Tie as tie
@@ -22,7 +22,7 @@ within : (c : tie.After-known-told) → c .before .k .given .0 .0 ≤ length (ca
 within c =
     let s = call c .follow in
     let k = c .before .k .given in
-    next-within (start (call c) .pre) (s .result) (s .last .0) (s .last .1 .1 .0) (s .ensures) (k .0 .0) (k .1) (s .kept .0)
+    beside-within next-told (start (call c) .pre) (s .result) (s .last .0) (s .last .1 .1 .0) (s .ensures) (k .0 .0) (k .1) (s .kept .0)
 
 slice-reshare-prefix-put-system : tie.Need-slice-reshare-prefix-put-system
 slice-reshare-prefix-put-system c = within c
@@ -35,13 +35,13 @@ put-system-requires c κs =
     let d = c .before .before .before in
     let s = call d .follow in
     let k = d .before .k .given in
-    next-held (start (call d) .pre) (s .result) (s .last .0) (s .last .1 .1 .0) (s .ensures) (k .0 .0) (k .1) (s .kept .0)
+    beside-held next-told (start (call d) .pre) (s .result) (s .last .0) (s .last .1 .1 .0) (s .ensures) (k .0 .0) (k .1) (s .kept .0)
 
 returns : tie.Need-returns
 returns c =
     let k = stepping (c .before .before) in
     let s = k .follow in
-    next-last (start k .pre) (s .result) (s .last .0) (s .last .1 .1 .0) (s .ensures) (c .enum-told .given .1) (now (start k .args .out))
+    beside-none next-told (start k .pre) (s .result) (s .last .0) (s .last .1 .1 .0) (s .ensures) (c .enum-told .given .1) (now (start k .args .out))
 
 returns-2 : tie.Need-returns-2
 returns-2 c =
@@ -51,7 +51,7 @@ returns-2 c =
     let k = d .before .k .given in
     λ S h.
     rw (c .as-successor .ensures)
-    (next-put (start (call d) .pre) (s .result) (s .last .0) (s .last .1 .1 .0) (s .ensures) (k .0 .0) (k .1) (put .put-system .ensures) S h)
+    (beside-put next-told (start (call d) .pre) (s .result) (s .last .0) (s .last .1 .1 .0) (s .ensures) (k .0 .0) (k .1) (put .put-system .ensures) S h)
 
 pub put-next-spec : {M : Type 1} → statement M
 put-next-spec =

@@ -3,8 +3,9 @@ use mathlib.Core.List.{List}
 use Prim.Native.Nat.{ℕ}
 use native.Mathlib.Omega.{arith}
 use lib.ListN.{length-take}
-use Rattle.acceptance.proofs.Taken.{Taken, code-taken, code-refused, taken-points}
-use Rattle.successor_entry.proofs.NextPut.{taken-next, successor-refused, successor-put}
+use Rattle.patterns.specs.Entry.{successorOf}
+use Rattle.acceptance.proofs.Taken.{Taken, code-taken, code-refused, outcome-refused, outcome-taken, taken-points}
+use Rattle.step_replies.proofs.StepReplies.{taken-next}
 use borrow.Author.Needs.{needs}
 use Rattle.successor_entry.proofs.successor.Statement.{statement}
 use Rattle.successor_entry.proofs.successor.Tie as tie
@@ -38,15 +39,17 @@ put-next-requires : tie.Need-put-next-requires
 put-next-requires c κs = taken-next (taken (c .before .before .before)) (omega arith) (omega arith)
 
 returns : tie.Need-returns
+unfolding successorOf
 returns c =
     let k = accepting (c .before .before .before) in
     let told = c .before .cause .given in
-    successor-refused (code k) (now (start k .args .out)) (told .0 .0) (code-refused (code k) (k .accept-into .ensures) (told .0 .0) (told .1))
+    outcome-refused _ (code k) (now (start k .args .out)) (told .0 .0) (code-refused (code k) (k .accept-into .ensures) (told .0 .0) (told .1))
 
 returns-2 : tie.Need-returns-2
+unfolding successorOf
 returns-2 c =
     let k = c .before .before .before .before in
-    successor-put (taken (k .before .before .before .before)) (k .put-next .ensures)
+    outcome-taken (taken (k .before .before .before .before)) (k .put-next .ensures)
 
 pub successor-spec : {M : Type 1} → statement M
 successor-spec =

@@ -5,7 +5,7 @@ use Prim.Native.Nat.{ℕ, suc, _+_, _-_, _≤_, _<_}
 use native.Mathlib.Omega.{arith}
 use lib.ListN.{getD, length-set}
 use borrow.Author.Needs.{needs}
-use Rattle.lower_sizes.specs.LastSize.{leftOf}
+use Rattle.lists.specs.Select.{leftOf}
 use Rattle.lower_sizes.proofs.Lowering.{none-empty, half-room, half-written, last-whole}
 use Rattle.lower_sizes.proofs.sizes.previous_sizes.Statement.{statement}
 use Rattle.lower_sizes.proofs.sizes.previous_sizes.Tie as tie
@@ -35,7 +35,7 @@ place c = omega (arith, some-held c .if1 .left)
 byte : (c : Read) → last c < 256
 byte c = omega (arith, c .before .before .slice-known2 .given (count c - 1))
 
-halved : (c : tie.Then2) → let l = leftOf (sizes (c .before)) (count (c .before) - 1) in l + l ≤ last (c .before)
+halved : (c : tie.Then2) → let l = leftOf 0 1 (sizes (c .before)) (count (c .before) - 1) in l + l ≤ last (c .before)
 halved c = omega (arith, c .if2 .taken, c .before .left-of .ensures .0)
 
 returns : tie.Need-returns

@@ -1,2 +1,0 @@
--- The laws that the entry cites.
-pub mod PreviousPut
