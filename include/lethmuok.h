@@ -55,7 +55,8 @@ typedef struct {
     int64_t bytes;
 } lethmuok_page_reply;
 
-/* Whether these bytes are a code; answers its number of points. */
+/* Whether these bytes are a code; answers its number of points. A code may be read again after each byte that is typed: where the answer is LETHMUOK_NUMBER_FORM it
+ * stays so, whatever bytes follow. */
 int64_t lethmuok_accept(const uint8_t *code, size_t code_len);
 
 /* Writes the first code in the list of n points; answers its length. */

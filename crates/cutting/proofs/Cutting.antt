@@ -100,7 +100,7 @@ stored-more xs out n x e =
     )
     (set-out (take (length out) xs) n x (omega (arith, length-take (length out) xs))))
 
--- The bytes before `at` have been read: n numbers have ended, and the next byte has this place in its number, which is so far known.
+-- The bytes before `at` have been read: n numbers have ended, the next byte has this place in its number, and that number is `soFar` up to there.
 pub record Cutting (s before out : List ℕ) (at n place soFar : ℕ) : Type 0 where
   pub within : at ≤ length s
   pub fewer : n ≤ at
