@@ -34,15 +34,15 @@ told (done S) r m n sizes trees a e =
     (S, refl, sym u, sym v, rw (u, v) (a .held S refl))
 told (fault c) r m n sizes trees a e = let q = sym e ∙ a .reply in clash cc
 
+pub told-refused : (o : Result System) (c : Refusal) → NotAccepted c ≡ acceptance o → o ≡ fault c
+told-refused (done S) c q = clash cc
+told-refused (fault d) c q = let z : c ≡ d = cc in ap fault (sym z)
+
 module _ (code : List ℕ) (r : Accepted) (sizes trees : List ℕ) (a : AcceptedInto (codeShape code) r sizes trees) where
   -- refused for its shape
   pub shape-refused : (c : Refusal) → r ≡ NotAccepted c → AcceptedInto (accepted code) r sizes trees
   shape-refused c e =
-      rw e (refused-into (accepted code) c sizes trees (accepted-shape code ∙ ap (λ o. andThen o checked) (of (codeShape code) (sym e ∙ a .reply))))
-    where
-      of : (o : Result System) → NotAccepted c ≡ acceptance o → o ≡ fault c
-      of (done S) q = clash cc
-      of (fault d) q = let z : c ≡ d = cc in ap fault (sym z)
+      rw e (refused-into (accepted code) c sizes trees (accepted-shape code ∙ ap (λ o. andThen o checked) (told-refused (codeShape code) c (sym e ∙ a .reply))))
 
   module _ (m n : ℕ) (e : r ≡ Held m n) where
     system-told : Told (codeShape code) m n sizes trees

@@ -13,12 +13,12 @@ use Rattle.patterns.specs.Replies.{Answer, length-is, refused, numberOf}
 use Rattle.patterns.specs.Entry.{Outcome, outcome, Replied, acceptOf}
 use Rattle.reading.specs.declared.Accepted.{Accepted}
 use Rattle.reading.specs.declared.Accepted.the-variants.{System as Held, Refused as NotAccepted}
-use Rattle.memory.specs.Memory.{Holds}
-use Rattle.memory.specs.Memory.{HeldSystem}
+use Rattle.memory.specs.Memory.{Holds, HeldSystem}
 use Rattle.reading.specs.Shape.{acceptance, AcceptedInto}
 use Rattle.form_theory.proofs.Readback.{canonical-nonempty}
 use Rattle.form_theory.proofs.WrittenBack.{accepted-canonical}
 use Rattle.memory.proofs.Parts.{held-count, held-points}
+use Rattle.acceptance.proofs.Acceptance.{told-refused}
 
 -- The bytes b were accepted, and the first m and n places of the memory hold their system.
 pub record Taken (b sizes trees : List ℕ) (m n : ℕ) : Type 0 where
@@ -33,11 +33,7 @@ pub record Taken (b sizes trees : List ℕ) (m n : ℕ) : Type 0 where
 module _ (b : List ℕ) {r : Accepted} {sizes trees : List ℕ} (a : AcceptedInto (accepted b) r sizes trees) where
   -- the bytes were refused
   pub code-refused : (c : Refusal) → r ≡ NotAccepted c → accepted b ≡ fault c
-  code-refused c e = of (accepted b) (sym e ∙ a .reply)
-    where
-      of : (o : Result System) → NotAccepted c ≡ acceptance o → o ≡ fault c
-      of (done S) q = clash cc
-      of (fault d) q = let z : c ≡ d = cc in ap fault (sym z)
+  code-refused c e = told-refused (accepted b) c (sym e ∙ a .reply)
 
   -- or accepted
   pub code-taken : (m n : ℕ) → r ≡ Held m n → Taken b sizes trees m n

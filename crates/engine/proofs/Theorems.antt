@@ -19,6 +19,7 @@ use Rattle.patterns.specs.Isomorphism.{Isomorphism}
 use Rattle.patterns.specs.Reading.{Result, done, fault, accepted}
 use Rattle.patterns.specs.Replies.{Answer, length-is, lacking, refused}
 use Rattle.patterns.specs.Entry.{Outcome, gives, ends, begins, lacks, fails, outcome, answered, Replied, checkedTable, codeOfMap, mapOfCode, IsomorphismFound, IsomorphismReplied, first-refused, second-refused, found, lengths-differ, not-found}
+use Rattle.patterns.proofs.IsomorphismExamples.{written-is-renaming}
 use Rattle.form_theory.proofs.Bounds.{allBelow}
 use Rattle.form_theory.proofs.WrittenBack.{accepted-is, written-equal}
 use Rattle.map_theory.proofs.MapOf.{length-mapOf, mapOf-table}
@@ -76,16 +77,12 @@ pub code-fills : (f : List ℕ) {before after : List ℕ} {a : Answer} → lengt
     → (a ≡ length-is (length (written (systemOfTable f)))) × (take (length (written (systemOfTable f))) after ≡ written (systemOfTable f))
 code-fills f h t p room = result-fills (written (systemOfTable f)) (rw (code-gives f h t) at p) room
 
--- an isomorphism or none: what was found where a length is the reply
-found-gives : (f g l : List ℕ) → IsomorphismFound f g (gives l) → Isomorphism (length f) f g l
-found-gives f g l (found p q e i) = i
-
 -- The table that "isomorphism" writes is an isomorphism from the first map to the second.
 pub isomorphism-written : {f g before after : List ℕ} {n : ℕ} → IsomorphismReplied f g before (length-is n) after
     → (n ≡ length f) × Isomorphism n f g (take n after)
 isomorphism-written {f} {g} {before} {after} {n} p =
     let r = result-written (p .found) (p .replied) in
-    let i : Isomorphism (length f) f g (r .0) = found-gives f g (r .0) (rw (r .1) at (p .isFound)) in
+    let i : Isomorphism (length f) f g (r .0) = written-is-renaming f g (r .0) (rw (r .1) at (p .isFound)) in
     let e : n ≡ length f = r .2 ∙ i .points in
     (e, subst (λ k. Isomorphism k f g (take n after)) (sym e) (subst (Isomorphism (length f) f g) (sym (r .3)) i))
 

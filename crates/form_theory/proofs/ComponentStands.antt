@@ -3,15 +3,14 @@
 use denote.Ref.{RefT, now}
 use mathlib.Core.Path.{_≡_, refl, ap, sym, _∙_}
 use mathlib.Core.Bool.{true}
-use mathlib.Core.List.{List, [], _∷_}
-use Prim.Native.Nat.{ℕ, zero, suc, _+_, _-_, _≤_, _<_}
-use native.Mathlib.Nat.{sub-zero}
+use mathlib.Core.List.{List, []}
+use Prim.Native.Nat.{ℕ, _+_, _-_, _≤_, _<_}
 use native.Mathlib.Omega.{arith}
 use borrow.Author.Tests.{lt-ltb, le-ltb, ltb-true}
 use lib.Dec.{ltb}
 use lib.ListN.{length, take, drop, getD}
-use lib.Seq.{take-nil}
 use Rattle.lists.proofs.Tests.{by-test, clash}
+use Rattle.lists.proofs.Places.{drop-take}
 use Rattle.patterns.specs.declared.Refusal.the-variants.{Position}
 use Rattle.patterns.specs.System.{System, weight, canonical}
 use Rattle.patterns.specs.Written.{componentNumbers, bytes, written, startOf}
@@ -49,12 +48,6 @@ stands-within {b} h s =
     let ends = component-ends (s .system) _ (s .inside) in
     let whole = accepted-is b (s .system) h (s .is) .0 in
     (omega (arith, ends .0, s .start-is, s .end-is), omega (arith, ends .1, ap length whole, s .end-is))
-
-drop-take : {A : Type 0} (a e : ℕ) (l : List A) → drop a (take e l) ≡ take (e - a) (drop a l)
-drop-take zero e l = rw sub-zero
-drop-take (suc a) zero l = let p : 0 - suc a ≡ 0 = omega arith in rw p
-drop-take (suc a) (suc e) [] = rw take-nil
-drop-take (suc a) (suc e) (x ∷ l) = let p : suc e - suc a ≡ e - a = omega arith in rw p (drop-take a e l)
 
 -- What is shown: the number of trees of the component at position i of the code's system, and then their codes, as they are written.
 pub component-shown : {b : List ℕ} {i start end : ℕ} → allBelow 256 b ≡ true → (s : ComponentAt b i start end)

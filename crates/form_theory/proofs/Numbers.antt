@@ -11,15 +11,10 @@ use borrow.Author.Tests.{lt-ltb, le-ltb, ltb-true, ltb-false, lt-leb, leb-false,
 use Rattle.lists.proofs.Tests.{by-test, choose-case}
 use Rattle.patterns.specs.Written.{writeNumber, bytes}
 use Rattle.patterns.specs.Reading.{done, mapped, cut}
+use Rattle.patterns.proofs.Numbers.{write-short, write-long}
 use Rattle.form_theory.proofs.Results.{Good, good-mapped, or-false}
 use Rattle.form_theory.proofs.Bounds.{allBelow, below-cons, below-head, below-tail, below-append}
 use Rattle.lists.proofs.Members.{gather-append}
-
-pub write-short : (x : ℕ) → x < 128 → writeNumber x ≡ x ∷ []
-write-short x h = rw (lt-ltb x 128 h)
-
-pub write-long : (x : ℕ) → 128 ≤ x → writeNumber x ≡ (x % 128 + 128) ∷ x / 128 ∷ []
-write-long x h = rw (le-ltb x 128 h)
 
 -- a number takes one or two bytes
 pub write-length : (x : ℕ) → (0 < length (writeNumber x)) × (length (writeNumber x) ≤ 2)

@@ -1,20 +1,18 @@
 -- Where the components stand in the written code: one after another behind n and m, each from its start to the next one's.
 use mathlib.Core.Path.{_≡_, refl, ap, sym, _∙_}
-use mathlib.Core.Bool.{true}
 use mathlib.Core.List.{List, [], _∷_, _++_, append-assoc, append-nil}
 use Prim.Native.Nat.{ℕ, suc, _+_, _-_, _≤_, _<_}
 use native.Mathlib.Omega.{arith}
 use native.Mathlib.Numerals.{add-one}
 use lib.ListN.{length, getD, take, drop, length-append}
 use lib.Seq.{slice, split-at, take-at, take-all, drop-at, take-suc}
-use Rattle.lists.specs.Select.{each, gather}
+use Rattle.lists.specs.Select.{gather}
 use Rattle.lists.proofs.Members.{gather-append}
-use Rattle.patterns.specs.Component.{Component, flat, nonempty}
+use Rattle.patterns.specs.Component.{Component, flat}
 use Rattle.patterns.specs.System.{System, weight}
-use Rattle.patterns.specs.Written.{componentNumbers, numbers, writeNumber, bytes, written, startOf}
+use Rattle.patterns.specs.Written.{componentNumbers, writeNumber, bytes, written, startOf}
 use Rattle.form_theory.proofs.Bounds.{length-gather, gather-within}
-use Rattle.form_theory.proofs.Numbers.{bytes-append, bytes-length, write-length}
-use Rattle.form_theory.proofs.Readback.{components-points, length-components}
+use Rattle.form_theory.proofs.Numbers.{bytes-append, write-length}
 
 -- the bytes of one component
 abbrev pub componentBytes : Component → List ℕ
@@ -95,11 +93,6 @@ start-after S i h = omega (arith, start-next S i h, start-here S i h, length-app
 -- behind the last one the code ends
 pub start-last : (S : System) (i : ℕ) → length S ≤ i → startOf S i ≡ length (written S)
 start-last S i h = start-length S i ∙ ap (λ R. length (heading S ++ gather componentBytes R)) (take-all i S h) ∙ ap length (sym (written-parts S))
-
--- a written code of at most 200 points has at most 804 bytes, canonical or not
-pub written-short : (S : System) → each nonempty S ≡ true → weight S ≤ 200 → length (written S) ≤ 804
-unfolding written
-written-short S e h = omega (arith, bytes-length (numbers S), length-components S, components-points S e)
 
 -- no component begins past its end
 pub start-within : (S : System) (i : ℕ) → startOf S i ≤ length (written S)

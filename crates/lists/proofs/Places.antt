@@ -1,13 +1,14 @@
--- Places in lists: where an entry stands, what stands from there on and what comes next; entries by index, and the one to the left; ranges of numbers;
+-- Places in lists: where an entry stands, what stands from there on and what comes next; entries by index, and the one to the left; parts; ranges of numbers;
 -- how often a number stands in a list.
 use mathlib.Core.Path.{_≡_, refl, ap, ap₂, sym, _∙_}
 use mathlib.Core.List.{List, [], _∷_, _++_, List·Memᴰ·head, List·Memᴰ·tail}
 use mathlib.Core.Bool.{false}
 use Prim.Native.Nat.{ℕ, zero, suc, _+_, _-_, _≤_, _<_, Ordering, compare}
+use native.Mathlib.Nat.{sub-zero}
 use native.Mathlib.Numerals.{add-one}
 use native.Mathlib.Omega.{arith}
 use lib.ListN.{length, take, drop, getD, length-append}
-use lib.Seq.{drop-cons, length-take-le, getD-take, getD-append-seam}
+use lib.Seq.{take-nil, drop-cons, length-take-le, getD-take, getD-append-seam}
 use Rattle.lists.specs.Order.{same}
 use Rattle.lists.specs.Select.{first, next, leftOf, place, from, range, times}
 use Rattle.lists.proofs.Tests.{_∈_, by-test, either, no-both}
@@ -90,6 +91,13 @@ module _ {A : Type 0} where
     -- equal places, equal members
     pub place-injective : {x y : A} {l : List A} → x ∈ l → y ∈ l → place c x l ≡ place c y l → x ≡ y
     place-injective {x} {y} {l} m k e = sym ((place-index x m) .1) ∙ ap (λ i. getD l i x) e ∙ (place-index x k) .1
+
+-- a part that begins at place a and ends at place e
+pub drop-take : {A : Type 0} (a e : ℕ) (l : List A) → drop a (take e l) ≡ take (e - a) (drop a l)
+drop-take zero e l = rw sub-zero
+drop-take (suc a) zero l = let p : 0 - suc a ≡ 0 = omega arith in rw p
+drop-take (suc a) (suc e) [] = rw take-nil
+drop-take (suc a) (suc e) (x ∷ l) = let p : suc e - suc a ≡ e - a = omega arith in rw p (drop-take a e l)
 
 -- To the left of a place.
 module _ {A : Type 0} (d a : A) (l : List A) (i : ℕ) where

@@ -5,6 +5,7 @@ pub mod Bridges
 pub mod Sheet
 pub mod Totals
 pub mod Causes
+pub mod Numbers
 pub mod AcceptanceExamples
 pub mod OnePassExamples
 pub mod TableExamples

@@ -13,8 +13,8 @@ use Rattle.lists.proofs.Comparison.{atMost-self, atMost-trans, atMost-anti, atM
 use Rattle.lists.proofs.Permute.{Perm, perm-append-comm, perm-path, perm-trans, perm-length, perm-each-same}
 use Rattle.lists.proofs.Members.{in-head, in-tail, in-list, in-moved, not-in-nil, in-cons-cases}
 use Rattle.patterns.specs.Tree.{validTree}
-use Rattle.patterns.specs.Component.{Component, compareComponent, turns, rotations, lesser, least, leastRotation, nonempty, validComponent}
-use Rattle.patterns.proofs.Trees.{compareComponent-lawful}
+use Rattle.patterns.specs.Component.{Component, compareComponent, turns, rotations, lesser, least, leastRotation, nonempty, points, validComponent}
+use Rattle.patterns.proofs.Trees.{size-positive, compareComponent-lawful}
 
 -- two ways to cut a list: one cut is not after the other
 pub cuts : {A : Type 0} (a b p q : List A) → a ++ b ≡ p ++ q → ((m : List A) × (p ≡ a ++ m) × (b ≡ m ++ q)) ⊎ ((m : List A) × (a ≡ p ++ m) × (q ≡ m ++ b))
@@ -209,6 +209,11 @@ valid-from c e f h =
 
 pub valid-nonempty : (c : Component) → validComponent c ≡ true → nonempty c ≡ true
 valid-nonempty c e = (valid-parts c e) .0
+
+-- a valid component has a point
+pub points-positive : (c : Component) → validComponent c ≡ true → 0 < points c
+points-positive [] v = absurd (true≢false (sym (valid-nonempty [] v)))
+points-positive (t ∷ c) v = omega (arith, size-positive t)
 
 pub valid-trees : (c : Component) → validComponent c ≡ true → each validTree c ≡ true
 valid-trees c e = (valid-parts c e) .1

@@ -1,19 +1,27 @@
 -- The shape of a code, by its first numbers and how many there are: that these decide, for any bound above the most numbers of a code of 200 points.
 use mathlib.Core.Path.{_≡_, refl, ap, ap₂, sym, _∙_, subst}
-use mathlib.Core.Bool.{cond, _&&_, _||_}
+use mathlib.Core.Bool.{true, cond, _&&_, _||_}
 use mathlib.Core.List.{List, [], _∷_}
-use Prim.Native.Nat.{ℕ, zero, suc, _+_, _-_, _<_}
+use Prim.Native.Nat.{ℕ, zero, suc, _+_, _-_, _≤_, _<_}
 use native.Mathlib.Omega.{arith}
 use lib.Dec.{ltb, eqb}
 use lib.ListN.{length, take, drop, length-drop}
 use borrow.Author.Tests.{lt-ltb, le-ltb, ltb-false}
 use Rattle.patterns.specs.declared.Refusal.the-variants.{Count, Truncated, Sizes, Trailing}
+use Rattle.lists.specs.Select.{each}
+use Rattle.patterns.specs.Component.{nonempty}
 use Rattle.patterns.specs.System.{System, weight}
+use Rattle.patterns.specs.Written.{numbers}
 use Rattle.patterns.specs.Reading.{Result, done, fault, andThen, readComponents}
 use Rattle.form_theory.proofs.Results.{or-false}
+use Rattle.form_theory.proofs.Readback.{components-points, length-components}
 use Rattle.reading.specs.declared.Accepted.{Accepted}
 use Rattle.reading.specs.Shape.{ended, shapeBody, shape, mostNumbers, keptNumbers, AcceptedInto}
 use Rattle.reading.proofs.Prefix.{same-else, same-results, components-take}
+
+-- A code of at most n points has no more numbers than `mostNumbers` says.
+pub numbers-most : (n : ℕ) (S : System) → each nonempty S ≡ true → weight S ≤ n → length (numbers S) ≤ mostNumbers n
+numbers-most n S c h = omega (arith, length-components S, components-points S c)
 
 -- no number is left after the first `used`
 abbrev pub allUsed : ℕ → ℕ → System → Result System

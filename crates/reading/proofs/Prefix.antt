@@ -3,12 +3,11 @@ use mathlib.Core.Path.{_≡_, refl, ap, _∙_}
 use mathlib.Core.Bool.{Bool, true, false, cond, _||_}
 use mathlib.Core.List.{List, [], _∷_}
 use Prim.Native.Nat.{ℕ, zero, suc, _+_, _-_, _≤_, _<_}
-use native.Mathlib.Nat.{sub-zero}
 use native.Mathlib.Omega.{arith}
 use lib.Dec.{ltb, eqb}
 use lib.ListN.{take, drop}
-use lib.Seq.{take-nil}
 use borrow.Author.Tests.{ltb-false, eqb-false}
+use Rattle.lists.proofs.Places.{drop-take}
 use Rattle.patterns.specs.declared.Refusal.the-variants.{Sizes}
 use Rattle.patterns.specs.Tree.{size, graft}
 use Rattle.patterns.specs.Component.{points}
@@ -28,12 +27,6 @@ same-then Q (fault c) q h = refl
 pub same-results : {A B : Type 0} (r : Result A) (f g : A → Result B) → ((x : A) → f x ≡ g x) → andThen r f ≡ andThen r g
 same-results (done x) f g h = h x
 same-results (fault c) f g h = refl
-
-drop-take : {A : Type 0} (m j : ℕ) (s : List A) → drop m (take j s) ≡ take (j - m) (drop m s)
-drop-take zero j s = rw sub-zero
-drop-take (suc m) zero s = let e : 0 - suc m ≡ 0 = omega arith in rw e
-drop-take (suc m) (suc j) [] = rw take-nil
-drop-take (suc m) (suc j) (x ∷ s) = let e : suc j - suc m ≡ j - m = omega arith in rw e (drop-take m j s)
 
 mutual
   unfolding readTree

@@ -1,7 +1,7 @@
 -- Canonical systems: what the test says, and the members of the lists that the list of all codes is made of.
 use mathlib.Core.Path.{_≡_, refl, ap, ap₂, sym, _∙_}
 use mathlib.Core.List.{List, [], _∷_, map}
-use mathlib.Core.Bool.{true, _&&_, true≢false}
+use mathlib.Core.Bool.{true, _&&_}
 use Prim.Native.Nat.{ℕ, _≤_, _<_, compare, Ordering·lt}
 use native.Mathlib.Omega.{arith}
 use lib.Dec.{isLe, leb, eqb}
@@ -16,16 +16,11 @@ use Rattle.lists.proofs.Members.{lawful-decides, in-head, in-cons-cases, in-sin
 use Rattle.patterns.specs.Component.{Component, points, compareComponent, validComponent}
 use Rattle.patterns.specs.Generation.{generation}
 use Rattle.patterns.specs.System.{System, generationPlace, compareGenerated, inOrder, canonical, available, systems}
-use Rattle.patterns.proofs.Trees.{size-positive, compareComponent-lawful}
-use Rattle.patterns.proofs.Rotations.{valid-nonempty}
+use Rattle.patterns.proofs.Trees.{compareComponent-lawful}
+use Rattle.patterns.proofs.Rotations.{points-positive}
 use Rattle.component_theory.proofs.Generation.{generation-sound, generation-complete, generation-once}
 use Rattle.lists.proofs.Neighbours.{in-from, of-from}
 use Rattle.system_theory.proofs.Sizes.{Upward, upward-nil, upward-cons, upward-head, upward-tail}
-
--- a valid component has a point
-pub points-positive : (c : Component) → validComponent c ≡ true → 0 < points c
-points-positive [] v = absurd (true≢false (sym (valid-nonempty [] v)))
-points-positive (t ∷ c) v = omega (arith, size-positive t)
 
 -- Order of components: by points, then by place, so by the list of these two numbers.
 

@@ -18,12 +18,13 @@ use Rattle.patterns.specs.Generation.{generation}
 use Rattle.patterns.specs.System.{System, weight, compareGenerated, inOrder, canonical, available, systems, codes, compareCodes, compareSystem}
 use Rattle.patterns.proofs.Trees.{compareSystem-lawful}
 use Rattle.component_theory.specs.Successor.{successor}
+use Rattle.patterns.proofs.Rotations.{points-positive}
 use Rattle.system_theory.specs.Step.{cycle, fills, bump, step}
 use Rattle.component_theory.proofs.Generation.{generation-once}
 use Rattle.component_theory.proofs.Successor.{successor-within}
 use Rattle.lists.proofs.Neighbours.{neighbours-gap, last-greatest}
 use Rattle.system_theory.proofs.Sizes.{upward-from, sum, sizes-sound, sizes-within}
-use Rattle.system_theory.proofs.Canonical.{points-positive, generated-points, inOrder-parts, inOrder-upward, canonical-upward, in-available, systems-sound}
+use Rattle.system_theory.proofs.Canonical.{generated-points, inOrder-parts, inOrder-upward, canonical-upward, in-available, systems-sound}
 use Rattle.system_theory.proofs.Codes.{codes-apart, codes-rise, codes-sound, codes-complete, codes-different}
 use Rattle.system_theory.proofs.Firsts.{pieces-start, sizes-start}
 

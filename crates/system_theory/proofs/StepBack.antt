@@ -20,11 +20,12 @@ use Rattle.patterns.specs.System.{System, weight, compareGenerated, inOrder, ca
 use Rattle.patterns.proofs.Trees.{compareComponent-lawful, compareSystem-lawful}
 use Rattle.component_theory.proofs.Generation.{generation-complete, generation-once}
 use Rattle.component_theory.proofs.Successor.{predecessor-within}
+use Rattle.patterns.proofs.Rotations.{points-positive}
 use Rattle.system_theory.specs.Step.{step}
 use Rattle.system_theory.specs.StepBack.{lower, lasts, fall, stepBack}
 use Rattle.system_theory.proofs.Sizes.{upward-from, sum, sizes-sound}
 use Rattle.system_theory.proofs.SizesBack.{sizes-back}
-use Rattle.system_theory.proofs.Canonical.{points-positive, generated-points, inOrder-parts, inOrder-upward, canonical-upward, in-available}
+use Rattle.system_theory.proofs.Canonical.{generated-points, inOrder-parts, inOrder-upward, canonical-upward, in-available}
 use Rattle.system_theory.proofs.Codes.{codes-sound, codes-different}
 use Rattle.system_theory.proofs.Lasts.{pieces-end, systems-last}
 use Rattle.system_theory.proofs.Step.{step-within, step-keeps}

@@ -1,7 +1,7 @@
 -- Whether a system in memory is canonical: the components one after another, each beside its left neighbour.
 use mathlib.Core.Path.{_≡_, refl, ap, sym, _∙_}
 use mathlib.Core.Logic.{_⊎_, inl, inr}
-use mathlib.Core.Bool.{true, false, _&&_, true≢false}
+use mathlib.Core.Bool.{true, false, _&&_}
 use mathlib.Core.List.{List, [], _∷_}
 use Prim.Native.Nat.{ℕ, _+_, _-_, _≤_, _<_}
 use native.Mathlib.Omega.{arith}
@@ -10,16 +10,11 @@ use Rattle.lists.specs.Order.{atMost}
 use Rattle.lists.proofs.Places.{drop-one}
 use Rattle.patterns.specs.Component.{Component, points, flat, validComponent}
 use Rattle.patterns.specs.System.{System, weight, compareGenerated, inOrder, canonical}
-use Rattle.patterns.proofs.Trees.{size-positive, length-flat}
-use Rattle.patterns.proofs.Rotations.{valid-parts}
+use Rattle.patterns.proofs.Trees.{length-flat}
+use Rattle.patterns.proofs.Rotations.{points-positive}
 use Rattle.memory.specs.Memory.{Held, Holds, HeldSystem}
 use Rattle.paths.specs.HeldPaths.{HeldPair}
 use Rattle.memory.proofs.Parts.{held-count, held-points, held-size, held-fits, held-part, held-next, held-unique}
-
--- a valid component has a point
-valid-points : (c : Component) → validComponent c ≡ true → 0 < points c
-valid-points [] v = absurd (true≢false (sym ((valid-parts [] v) .0)))
-valid-points (t ∷ c) v = omega (arith, size-positive t)
 
 -- The components before place i are in order. The last of them is p, from `last` to `at`; before the first there is none.
 pub record Checking (sizes trees : List ℕ) (last at i : ℕ) : Type 0 where
@@ -78,7 +73,7 @@ module _ {sizes trees : List ℕ} {last at i : ℕ} (w : Checking sizes trees la
             second = c;
             first-is = w .left-is;
             second-is = checking-part;
-            valid = λ q. (of (w .valid) (omega (arith, q, l, r, valid-points c v)), v);
+            valid = λ q. (of (w .valid) (omega (arith, q, l, r, points-positive c v)), v);
             small = (omega (arith, m, l, w .held .small, w .left-place, checking-within), omega (arith, m, r, k, w .held .small, checking-within));
           }
         where

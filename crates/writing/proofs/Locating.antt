@@ -16,7 +16,8 @@ use Rattle.patterns.proofs.Trees.{length-flat}
 use Rattle.memory.specs.Memory.{Holds, HeldSystem}
 use Rattle.memory.proofs.Parts.{part-fits, held-count, held-points, held-fits, held-part, held-next}
 use Rattle.form_theory.proofs.Numbers.{bytes-length}
-use Rattle.form_theory.proofs.Stretches.{start-first, start-after, start-last, start-within, written-short}
+use Rattle.form_theory.proofs.Stretches.{start-first, start-after, start-last, start-within}
+use Rattle.form_theory.proofs.WrittenBack.{written-short}
 use Rattle.writing.specs.Writable.{HeldComponent}
 
 -- One component: the number of its trees, then their codes.

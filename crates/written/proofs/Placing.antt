@@ -7,10 +7,11 @@ use native.Mathlib.Numerals.{add-one}
 use native.Mathlib.Omega.{arith}
 use lib.ListN.{length, take, drop, set, length-append, length-take, length-drop, take-append-drop}
 use lib.Seq.{set-split, take-at, drop-at, drop-drop, take-length, length-take-le}
-use borrow.Author.Tests.{lt-ltb, le-ltb, le-leb, lt-leb}
+use borrow.Author.Tests.{le-leb, lt-leb}
 use Rattle.patterns.specs.Written.{writeNumber}
 use Rattle.patterns.specs.Entry.{gives, Replied}
 use Rattle.patterns.specs.Replies.{length-is, refused}
+use Rattle.patterns.proofs.Numbers.{write-short, write-long}
 use Rattle.written.specs.Putting.{placed, Placed}
 
 module _ {A : Type 0} where
@@ -51,17 +52,10 @@ placed-then {a} {b} {at} {m} {r} {d} {e} {f} h u v =
       output = v .output ∙ rw (u .output, u .end) (placed-more at a b d h);
     }
 
--- how many bytes a number takes
-pub number-short : (x : ℕ) → x < 128 → writeNumber x ≡ x ∷ []
-number-short x h = rw (lt-ltb x 128 h)
-
-pub number-long : (x : ℕ) → 128 ≤ x → writeNumber x ≡ (x % 128 + 128) ∷ x / 128 ∷ []
-number-long x h = rw (le-ltb x 128 h)
-
 -- a number of one byte
 pub put-short : (x at : ℕ) (d : List ℕ) → x < 128 → at + length (writeNumber x) ≤ length d → Placed (writeNumber x) at d (at + 1) (set d at x)
 put-short x at d h room =
-    let e = number-short x h in
+    let e = write-short x h in
     let k : at < length d = omega (arith, rw e at room) in
     rw e record { end = refl; output = placed-one d at x k }
 
@@ -69,7 +63,7 @@ put-short x at d h room =
 pub put-long : (x at : ℕ) (d : List ℕ) → 128 ≤ x → at + length (writeNumber x) ≤ length d
     → Placed (writeNumber x) at d (at + 2) (set (set d at (x % 128 + 128)) (at + 1) (x / 128))
 put-long x at d h room =
-    let e = number-long x h in
+    let e = write-long x h in
     let k : at + 1 < length d = omega (arith, rw e at room) in
     let low = x % 128 + 128 in
     let rest = x / 128 in

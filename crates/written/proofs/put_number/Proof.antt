@@ -2,12 +2,13 @@ use denote.Ref.{now}
 use native.Mathlib.Omega.{arith}
 use borrow.Author.Needs.{needs}
 use lib.ListN.{length-set}
-use Rattle.written.proofs.Placing.{number-short, number-long, put-short, put-long}
+use Rattle.patterns.proofs.Numbers.{write-short, write-long}
+use Rattle.written.proofs.Placing.{put-short, put-long}
 use Rattle.written.proofs.put_number.Statement.{statement}
 use Rattle.written.proofs.put_number.Tie as tie
 
 slice-write-out : tie.Need-slice-write-out
-slice-write-out c = omega (arith, rw (number-short (c .before .args .x) (omega arith)) at (c .before .pre .1))
+slice-write-out c = omega (arith, rw (write-short (c .before .args .x) (omega arith)) at (c .before .pre .1))
 
 same-length : tie.Need-same-length
 same-length c = search needs
@@ -18,10 +19,10 @@ returns c =
     put-short (a .x) (a .at) (now (a .out)) (omega arith) (c .before .pre .1)
 
 slice-write-out-2 : tie.Need-slice-write-out-2
-slice-write-out-2 c = omega (arith, rw (number-long (c .before .args .x) (omega arith)) at (c .before .pre .1))
+slice-write-out-2 c = omega (arith, rw (write-long (c .before .args .x) (omega arith)) at (c .before .pre .1))
 
 slice-write-out-3 : tie.Need-slice-write-out-3
-slice-write-out-3 c = simp length-set (omega (arith, rw (number-long (c .before .args .x) (omega arith)) at (c .before .pre .1)))
+slice-write-out-3 c = simp length-set (omega (arith, rw (write-long (c .before .args .x) (omega arith)) at (c .before .pre .1)))
 
 returns-2 : tie.Need-returns-2
 returns-2 c =
