@@ -52,9 +52,12 @@ whole-told (whole n) v e = cc
 whole-told (begun n) v e = clash cc
 whole-told (broken c) v e = clash cc
 
-begun-told : (k : Known) (v next : ℕ) → Number v next ≡ stepReply k → 0 < next → (k ≡ begun v) × (next ≡ 1)
+begun-told : (k : Known) (v next : ℕ) → Number v next ≡ stepReply k → 0 < next → (k ≡ begun (v - 128)) × (128 ≤ v) × (next ≡ 1)
 begun-told (whole n) v next e h = let z : next ≡ 0 = cc in absurd (omega arith)
-begun-told (begun n) v next e h = (cc, cc)
+begun-told (begun n) v next e h =
+    let f : v ≡ n + 128 = cc in
+    let g : n ≡ v - 128 = omega arith in
+    (ap begun g, omega arith, cc)
 begun-told (broken c) v next e h = clash cc
 
 broken-told : (k : Known) (c : Refusal) → Refused c ≡ stepReply k → k ≡ broken c
@@ -100,41 +103,41 @@ stored-more xs out n x e =
     )
     (set-out (take (length out) xs) n x (omega (arith, length-take (length out) xs))))
 
--- The bytes before `at` have been read: n numbers have ended, the next byte has this place in its number, and that number is `soFar` up to there.
-pub record Cutting (s before out : List ℕ) (at n place soFar : ℕ) : Type 0 where
+-- The bytes before `at` have been read: n numbers have ended, and the next byte has this place in its number, which began with the byte `first`.
+pub record Cutting (s before out : List ℕ) (at n place first : ℕ) : Type 0 where
   pub within : at ≤ length s
   pub fewer : n ≤ at
   pub same : length out ≡ length before
-  pub low : soFar < 128
+  pub low : (first < 256) × (0 < place → 128 ≤ first)
   pub had : List ℕ
   pub count : length had ≡ n
-  pub known : scan (take at s) ≡ going had place soFar
+  pub known : scan (take at s) ≡ going had place (first - 128)
   pub kept : out ≡ stored had before
 
 pub cutting-start : (s before : List ℕ) → Cutting s before before 0 0 0 0
 cutting-start s before =
-    record { within = omega arith; fewer = omega arith; same = refl; low = omega arith; had = []; count = refl; known = refl; kept = rw take-nil }
+    record { within = omega arith; fewer = omega arith; same = refl; low = (omega arith, λ q. omega arith); had = []; count = refl; known = refl; kept = rw take-nil }
 
-module _ {s before out : List ℕ} {at n place soFar : ℕ} (w : Cutting s before out at n place soFar) where
+module _ {s before out : List ℕ} {at n place first : ℕ} (w : Cutting s before out at n place first) where
   module _ (h : at < length s) where
     -- what is known after one byte more
-    further : (k : Known) → cutStep (getD s at 0) place soFar ≡ k → scan (take (at + 1) s) ≡ scanned (w .had) place k
+    further : (k : Known) → cutStep (getD s at 0) place (first - 128) ≡ k → scan (take (at + 1) s) ≡ scanned (w .had) place k
     further k e = scan-next s at h ∙ ap (scanStep (getD s at 0)) (w .known) ∙ ap (scanned (w .had) place) e
 
     -- a refusal decides over all
-    pub cutting-refused : (c : Refusal) → Refused c ≡ stepReply (cutStep (getD s at 0) place soFar) → CutInto s before (Refused c) out
+    pub cutting-refused : (c : Refusal) → Refused c ≡ stepReply (cutStep (getD s at 0) place (first - 128)) → CutInto s before (Refused c) out
     cutting-refused c e =
-        let f : cut s ≡ fault c = prefix-fault s (at + 1) c (further (broken c) (broken-told (cutStep (getD s at 0) place soFar) c e)) in
+        let f : cut s ≡ fault c = prefix-fault s (at + 1) c (further (broken c) (broken-told (cutStep (getD s at 0) place (first - 128)) c e)) in
         record { same = w .same; reply = rw f; output = λ xs g. clash cc }
 
-    module _ (value next : ℕ) (byte : getD s at 0 < 256) (e : Number value next ≡ stepReply (cutStep (getD s at 0) place soFar)) where
-      bounded : Small place (cutStep (getD s at 0) place soFar)
-      bounded = small (getD s at 0) place soFar byte (w .low)
+    module _ (value next : ℕ) (byte : getD s at 0 < 256) (e : Number value next ≡ stepReply (cutStep (getD s at 0) place (first - 128))) where
+      bounded : Small place (cutStep (getD s at 0) place (first - 128))
+      bounded = small (getD s at 0) place (first - 128) byte (omega (arith, w .low .0))
 
       -- a number has ended: it is below 16,384, and one more is kept and counted
       module _ (z : next ≡ 0) where
-        ended : cutStep (getD s at 0) place soFar ≡ whole value
-        ended = whole-told (cutStep (getD s at 0) place soFar) value (ap (Number value) (sym z) ∙ e)
+        ended : cutStep (getD s at 0) place (first - 128) ≡ whole value
+        ended = whole-told (cutStep (getD s at 0) place (first - 128)) value (ap (Number value) (sym z) ∙ e)
 
         pub ended-small : value < 16384
         ended-small = subst (Small place) ended bounded
@@ -145,7 +148,7 @@ module _ {s before out : List ℕ} {at n place soFar : ℕ} (w : Cutting s befor
               within = omega arith;
               fewer = omega (arith, w .fewer);
               same = simp length-set (w .same);
-              low = omega arith;
+              low = (omega arith, λ q. omega arith);
               had = w .had ++ (value ∷ []);
               count = omega (arith, length-append (w .had) (value ∷ []), w .count);
               known = further (whole value) ended ∙ ap (λ p. going (w .had ++ (value ∷ [])) p 0) (sym z);
@@ -155,16 +158,16 @@ module _ {s before out : List ℕ} {at n place soFar : ℕ} (w : Cutting s befor
       -- a number goes on
       pub cutting-open : 0 < next → Cutting s before out (at + 1) n next value
       cutting-open k =
-          let told = begun-told (cutStep (getD s at 0) place soFar) value next e k in
+          let told = begun-told (cutStep (getD s at 0) place (first - 128)) value next e k in
           let b = subst (Small place) (told .0) bounded in
           record {
             within = omega arith;
             fewer = omega (arith, w .fewer);
             same = w .same;
-            low = b .0;
+            low = (omega (arith, b .0, told .1), λ q. told .1);
             had = w .had;
             count = w .count;
-            known = further (begun value) (told .0) ∙ ap (λ p. going (w .had) p value) (omega (arith, b .1, told .1));
+            known = further (begun (value - 128)) (told .0) ∙ ap (λ p. going (w .had) p (value - 128)) (omega (arith, b .1, told .2));
             kept = w .kept;
           }
 
@@ -174,7 +177,7 @@ module _ {s before out : List ℕ} {at n place soFar : ℕ} (w : Cutting s befor
       let f : cut s ≡ fault Truncated = prefix-end s at h ∙ ap scanEnd (w .known) ∙ open-end place p in
       record { same = w .same; reply = rw f; output = λ xs g. clash cc }
     where
-      open-end : (p : ℕ) → 0 < p → scanEnd (going (w .had) p soFar) ≡ fault Truncated
+      open-end : (p : ℕ) → 0 < p → scanEnd (going (w .had) p (first - 128)) ≡ fault Truncated
       open-end zero k = absurd (omega arith)
       open-end (suc p) k = refl
 
@@ -182,7 +185,7 @@ module _ {s before out : List ℕ} {at n place soFar : ℕ} (w : Cutting s befor
   pub cutting-end : length s ≤ at → place ≡ 0 → CutInto s before (Number n at) out
   cutting-end h p =
       let e : at ≡ length s = omega (arith, w .within) in
-      let f : cut s ≡ done (w .had) = prefix-end s at h ∙ ap scanEnd (w .known ∙ ap (λ q. going (w .had) q soFar) p) in
+      let f : cut s ≡ done (w .had) = prefix-end s at h ∙ ap scanEnd (w .known ∙ ap (λ q. going (w .had) q (first - 128)) p) in
       record {
         same = w .same;
         reply = rw (f, w .count, e);

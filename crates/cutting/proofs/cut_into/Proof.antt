@@ -1,6 +1,5 @@
 use denote.Ref.{now}
 use mathlib.Core.Path.{_≡_, sym, subst, _∙_}
-use mathlib.Core.Logic.{⊎-elim}
 use mathlib.Core.List.{List}
 use Prim.Native.Nat.{ℕ, _-_, _<_}
 use native.Mathlib.Omega.{arith}
@@ -14,10 +13,10 @@ use Rattle.cutting.proofs.cut_into.Statement.{statement}
 use Rattle.cutting.proofs.cut_into.Tie as tie
 
 abbrev Inv-loop : tie.InvT-loop
-Inv-loop s out₀ at₀ n₀ place₀ number₀ out at n place number = Cutting s out₀ out at n place number
+Inv-loop s out₀ at₀ n₀ place₀ first₀ out at n place first = Cutting s out₀ out at n place first
 
 abbrev μ-loop : tie.MeasureT-loop
-μ-loop s out₀ at₀ n₀ place₀ number₀ out at n place number = length s - at
+μ-loop s out₀ at₀ n₀ place₀ first₀ out at n place first = length s - at
 
 -- The place where a byte has been read in this turn, and what is told of its number.
 abbrev Found : Type 0
@@ -38,14 +37,14 @@ Next c = c .before .known .given .0 .1 .0
 loop-holds : tie.Need-loop-holds Inv-loop μ-loop
 loop-holds c = cutting-start (now (c .before .before .args .s)) (now (c .before .before .args .out))
 
-told : (c : Found) → let l = (turn c) .loop in Number (Value c) (Next c) ≡ stepReply (cutStep (getD (S c) (l .at) 0) (l .place) (l .number))
+told : (c : Found) → let l = (turn c) .loop in Number (Value c) (Next c) ≡ stepReply (cutStep (getD (S c) (l .at) 0) (l .place) (l .first - 128))
 told c = sym (c .before .known .given .1) ∙ c .before .before .before .cut-step .ensures
 
 byte : (c : Found) → getD (S c) ((turn c) .loop .at) 0 < 256
 byte c = omega (arith, (turn c) .before .before .shared-slice-known .given ((turn c) .loop .at))
 
-cast-cut-step : tie.Need-cast-cut-step Inv-loop μ-loop
-cast-cut-step c = omega (arith, c .shared-slice-known2 .given (c .before .before .loop .at))
+cast-byte : tie.Need-cast-byte Inv-loop μ-loop
+cast-byte c = omega (arith, c .shared-slice-known2 .given (c .before .before .loop .at))
 
 same-length : tie.Need-same-length Inv-loop μ-loop
 same-length c = c .before .before .before .before .before .loop .inv .same
@@ -72,12 +71,13 @@ add-n c =
 
 loop-again : tie.Need-loop-again Inv-loop μ-loop
 loop-again c =
+    let f : Found = c .before .before .before .before .before in
+    rw (c .before .before .keep .ensures) (cutting-ended ((turn f) .loop .inv) (omega arith) (Value f) (Next f) (byte f) (told f) (omega arith))
+
+loop-again-2 : tie.Need-loop-again-2 Inv-loop μ-loop
+loop-again-2 c =
     let f : Found = c .before in
-    let inv = (turn f) .loop .inv in
-    ⊎-elim
-    (λ v. rw (v .5, v .6, v .7, v .2 .ensures) (cutting-ended inv (omega arith) (Value f) (Next f) (byte f) (told f) (omega (arith, v .0 .taken))))
-    (λ v. rw (v .1, v .2, v .3) (cutting-open inv (omega arith) (Value f) (Next f) (byte f) (told f) (omega (arith, v .0 .left))))
-    (c .if1 .came)
+    cutting-open ((turn f) .loop .inv) (omega arith) (Value f) (Next f) (byte f) (told f) (omega arith)
 
 returns-2 : tie.Need-returns-2 Inv-loop μ-loop
 returns-2 c = cutting-truncated (c .before .before .loop .inv) (omega arith) (omega arith)
@@ -93,7 +93,8 @@ cut-into-spec =
     μ-loop
     loop-holds
     (λ c. search needs)
-    cast-cut-step
+    cast-byte
+    (λ c. search needs)
     (λ c κs. c .before .before .loop .inv .low)
     (λ c. search needs)
     (λ c. search needs)
@@ -102,8 +103,9 @@ cut-into-spec =
     keep-requires
     add-n
     (λ c. search needs)
-    (λ c. search needs)
     loop-again
+    (λ c. search needs)
+    loop-again-2
     (λ c. c .before .before .loop .inv .same)
     returns-2
     (λ c. c .before .before .loop .inv .same)
