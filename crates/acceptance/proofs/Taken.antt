@@ -52,16 +52,12 @@ pub accept-refused : (b : List ℕ) (c : Refusal) → accepted b ≡ fault c →
 unfolding acceptOf
 accept-refused b c e = rw e
 
--- the reply of an entry that finds something of the system
-pub outcome-refused : {A : Type 0} (f : System → Outcome A) (b : List ℕ) (before : List A) (c : Refusal) → accepted b ≡ fault c
-    → Replied (outcome (accepted b) f) before (refused (numberOf c)) before
-outcome-refused f b before c e = rw e (record { reply = refl; output = refl })
-
 module _ {b sizes trees : List ℕ} {m n : ℕ} (t : Taken b sizes trees m n) where
   pub accept-points : length-is n ≡ acceptOf b
   unfolding acceptOf
   accept-points = rw (t .is) (ap length-is (sym (t .points-are)))
 
+  -- the reply of an entry that finds something of the system
   pub outcome-taken : {A : Type 0} {f : System → Outcome A} {before after : List A} {a : Answer}
       → ((S : System) → Holds S (take m sizes) (take n trees) → Replied (f S) before a after) → Replied (outcome (accepted b) f) before a after
   outcome-taken p = rw (t .is) (p (t .system) (t .holds))

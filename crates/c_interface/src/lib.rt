@@ -13,6 +13,7 @@ ghost use mathlib.Core.Path.{_≡_};
 ghost use Rattle.patterns.specs.Entry.{acceptOf, firstOf, successorOf, codeOfMap, mapOfCode, heightOf, longestOf};
 ghost use Rattle.patterns.specs.Page.{pageOf};
 ghost use Rattle.patterns.specs.Predecessor.{predecessorOf};
+ghost use Rattle.patterns.specs.Arithmetic.{sumOfCodes, productOfCodes};
 ghost use Rattle.patterns.specs.SignedReplies.{signedOf, Reported, PageReported, IsomorphismReported, CensusReported, componentStart, componentEnd};
 
 // n, or the refusal of a code.
@@ -69,6 +70,22 @@ pub extern "C" fn lethmuok_map_of_code(code: &[u8], out: &mut [u8]) -> i64
     ensures { λ r. ⌜ Reported (mapOfCode (now (code .entry))) (now (out .entry)) r (now (out .exit)) ⌝ }
 {
     reply_number(engine::map_of_code(code, out))
+}
+
+// Writes the code of both systems side by side.
+#[no_mangle]
+pub extern "C" fn lethmuok_sum(first: &[u8], second: &[u8], out: &mut [u8]) -> i64
+    ensures { λ r. ⌜ Reported (sumOfCodes (now (first .entry)) (now (second .entry))) (now (out .entry)) r (now (out .exit)) ⌝ }
+{
+    reply_number(engine::sum(first, second, out))
+}
+
+// Writes the code of the system of pairs, each half moving by its own map.
+#[no_mangle]
+pub extern "C" fn lethmuok_product(first: &[u8], second: &[u8], out: &mut [u8]) -> i64
+    ensures { λ r. ⌜ Reported (productOfCodes (now (first .entry)) (now (second .entry))) (now (out .entry)) r (now (out .exit)) ⌝ }
+{
+    reply_number(engine::product(first, second, out))
 }
 
 // Writes an isomorphism from the map `f` to the map `g`.

@@ -4,12 +4,11 @@ use mathlib.Core.List.{List}
 use Prim.Native.Nat.{ℕ}
 use native.Mathlib.Omega.{arith}
 use lib.ListN.{length, take}
-use Rattle.patterns.specs.declared.Refusal.{Refusal}
 use Rattle.patterns.specs.System.{System}
 use Rattle.patterns.specs.Written.{written}
 use Rattle.patterns.specs.Table.{systemOfTable}
-use Rattle.patterns.specs.Reading.{done, fault}
-use Rattle.patterns.specs.Replies.{Answer, refused, numberOf}
+use Rattle.patterns.specs.Reading.{done}
+use Rattle.patterns.specs.Replies.{Answer}
 use Rattle.patterns.specs.Entry.{gives, Replied, checkedTable, codeOfMap}
 use Rattle.memory.specs.Memory.{Holds, HeldSystem}
 use Rattle.map_theory.proofs.Theorems.{table-canonical, table-weight}
@@ -36,10 +35,6 @@ module _ {f : List ℕ} (s : LabelledSystem) (p : CodedAs f s) where
 
 -- the code of a map, or the refusal of its table
 module _ (f : List ℕ) where
-  pub map-refused : (c : Refusal) → checkedTable f ≡ fault c → (before : List ℕ) → Replied (codeOfMap f) before (refused (numberOf c)) before
-  unfolding codeOfMap
-  map-refused c e before = rw e (record { reply = refl; output = refl })
-
   pub map-coded : checkedTable f ≡ done f → {before after : List ℕ} {a : Answer}
       → Replied (gives (written (systemOfTable f))) before a after → Replied (codeOfMap f) before a after
   unfolding codeOfMap

@@ -18,7 +18,8 @@ use Rattle.patterns.specs.Replies.{length-is, census-is, census-refused}
 use Rattle.patterns.specs.Entry.{gives, fails, outcome, answered, filled, checkedTable, codeOfMap, censusOf, rowsFound, censusAnswered, CensusReplied, columnFilled, ColumnsReplied}
 use Rattle.map_theory.specs.UnorderedCensus.{IsCensus}
 use Rattle.map_theory.proofs.Occurring.{row-lengths, row-counts, rows-rise, rows-are-census, census-only, same-rows}
-use Rattle.engine.proofs.Theorems.{result-written, same-systems, same-points}
+use Rattle.patterns.proofs.Outcomes.{result-written}
+use Rattle.engine.proofs.Theorems.{same-systems, same-points}
 
 -- rows are found of a table only
 rows-found : (f : List ℕ) {rows : List Row} → rowsFound f ≡ gives rows → (checkedTable f ≡ done f) × (rows ≡ censusRows (length f) (image f))

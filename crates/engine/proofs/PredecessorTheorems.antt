@@ -30,7 +30,7 @@ use Rattle.system_theory.proofs.Step.{step-is, step-keeps}
 use Rattle.system_theory.proofs.StepBack.{stepBack-is, stepBack-within, stepBack-keeps, step-back, back-step, stepBack-first, first-stepBack}
 use Rattle.form_theory.proofs.Bounds.{allBelow}
 use Rattle.form_theory.proofs.WrittenBack.{written-back, written-fits, accepted-is, accepted-canonical}
-use Rattle.engine.proofs.Theorems.{result-written, result-fills}
+use Rattle.patterns.proofs.Outcomes.{result-written, result-fills}
 
 -- any call that finds o, with a buffer of at least 1,000 bytes, writes exactly b
 abbrev pub Returns : Outcome ℕ → List ℕ → Type 0

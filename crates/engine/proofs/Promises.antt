@@ -13,6 +13,7 @@ use ghost.Atoms.{Atoms}
 use contract.Monad.{Fun, fact}
 use Rattle.patterns.specs.Page.{pageOf, PageReplied}
 use Rattle.patterns.specs.Predecessor.{predecessorOf}
+use Rattle.patterns.specs.Arithmetic.{sumOfCodes, productOfCodes}
 use Rattle.patterns.specs.Entry.{Replied, acceptOf, firstOf, successorOf, codeOfMap, mapOfCode, IsomorphismReplied, CensusReplied}
 use Rattle.patterns.specs.Replies.{answerOf}
 use Rattle.patterns.specs.Replies.{successorAnswer, predecessorAnswer, pageAnswer, isomorphismAnswer, censusAnswer}
@@ -32,6 +33,10 @@ use Rattle.coding_entry.proofs.code_of_map.Reads as code-of-map
 use Rattle.coding_entry.proofs.code_of_map.Kinds as code-of-map-kinds
 use Rattle.decoding_entry.proofs.map_of_code.Reads as map-of-code
 use Rattle.decoding_entry.proofs.map_of_code.Kinds as map-of-code-kinds
+use Rattle.arithmetic_entries.proofs.sum.Reads as sum
+use Rattle.arithmetic_entries.proofs.sum.Kinds as sum-kinds
+use Rattle.arithmetic_entries.proofs.product.Reads as product
+use Rattle.arithmetic_entries.proofs.product.Kinds as product-kinds
 use Rattle.isomorphism_entry.proofs.isomorphism.Reads as isomorphism
 use Rattle.isomorphism_entry.proofs.isomorphism.Kinds as isomorphism-kinds
 use Rattle.census_entries.proofs.census as census
@@ -77,6 +82,15 @@ code-of-map-promise κs a r s p = p
 pub map-of-code-promise : (κs : Lfts 2) (a : Dens κs map-of-code-kinds.ps) (r : _) (s : _) → map-of-code.Post κs a r s
     → Replied (mapOfCode (now (a .0))) (now (a .1 .0)) (answerOf r) (now (s .1 .0))
 map-of-code-promise κs a r s p = p
+
+-- `sum` and `product`
+pub sum-promise : (κs : Lfts 3) (a : Dens κs sum-kinds.ps) (r : _) (s : _) → sum.Post κs a r s
+    → Replied (sumOfCodes (now (a .0)) (now (a .1 .0))) (now (a .1 .1 .0)) (answerOf r) (now (s .1 .1 .0))
+sum-promise κs a r s p = p
+
+pub product-promise : (κs : Lfts 3) (a : Dens κs product-kinds.ps) (r : _) (s : _) → product.Post κs a r s
+    → Replied (productOfCodes (now (a .0)) (now (a .1 .0))) (now (a .1 .1 .0)) (answerOf r) (now (s .1 .1 .0))
+product-promise κs a r s p = p
 
 -- `isomorphism`
 pub isomorphism-promise : (κs : Lfts 3) (a : Dens κs isomorphism-kinds.ps) (r : _) (s : _) → isomorphism.Post κs a r s

@@ -6,9 +6,7 @@ use mathlib.Core.List.{List}
 use Prim.Native.Nat.{ℕ, _≤_}
 use native.Mathlib.Omega.{arith}
 use lib.Dec.{leb}
-use lib.ListN.{length, take, drop}
-use lib.Seq.{take-at}
-use borrow.Author.Tests.{le-ltb, le-leb}
+use lib.ListN.{length, take}
 use Rattle.lists.proofs.Tests.{by-test, clash}
 use Rattle.patterns.specs.declared.Refusal.{Refusal}
 use Rattle.patterns.specs.System.{System, weight}
@@ -18,7 +16,8 @@ use Rattle.patterns.specs.Table.{isTable, systemOfTable}
 use Rattle.patterns.specs.Isomorphism.{Isomorphism}
 use Rattle.patterns.specs.Reading.{Result, done, fault, accepted}
 use Rattle.patterns.specs.Replies.{Answer, length-is, lacking, refused}
-use Rattle.patterns.specs.Entry.{Outcome, gives, ends, begins, lacks, fails, outcome, answered, Replied, checkedTable, codeOfMap, mapOfCode, IsomorphismFound, IsomorphismReplied, first-refused, second-refused, found, lengths-differ, not-found}
+use Rattle.patterns.specs.Entry.{Outcome, gives, fails, outcome, answered, Replied, checkedTable, codeOfMap, mapOfCode, IsomorphismFound, IsomorphismReplied, first-refused, second-refused, found, lengths-differ, not-found}
+use Rattle.patterns.proofs.Outcomes.{result-written, result-fills, code-gives}
 use Rattle.patterns.proofs.IsomorphismExamples.{written-is-renaming}
 use Rattle.form_theory.proofs.Bounds.{allBelow}
 use Rattle.form_theory.proofs.WrittenBack.{accepted-is, written-equal}
@@ -26,26 +25,6 @@ use Rattle.map_theory.proofs.MapOf.{length-mapOf, mapOf-table}
 use Rattle.map_theory.proofs.Theorems.{table-canonical, table-weight, system-of-map, isomorphic-same-system, same-system-isomorphic}
 use Rattle.tables.specs.Tables.{Table}
 use Rattle.tables.proofs.Tables.{checked-table}
-
--- a length is the reply only where there is a result, which then stands in the first places
-pub result-written : {A : Type 0} (o : Outcome A) {before after : List A} {n : ℕ} → Replied o before (length-is n) after
-    → (l : List A) × (o ≡ gives l) × (n ≡ length l) × (take n after ≡ l)
-result-written (gives l) {before} {after} {n} p =
-    by-test (leb (length l) (length before))
-    (λ e.
-    let q : length-is n ≡ length-is (length l) = p .reply ∙ rw e in
-    let k : n ≡ length l = cc in
-    (l, refl, k, ap (take n) (p .output ∙ rw e) ∙ take-at l (drop (length l) before) n (sym k)))
-    (λ e. let q : length-is n ≡ refused 8 = p .reply ∙ rw e in clash cc)
-result-written ends p = let q = p .reply in clash cc
-result-written begins p = let q = p .reply in clash cc
-result-written lacks p = let q = p .reply in clash cc
-result-written (fails c) p = let q = p .reply in clash cc
-
--- the code of a table that passes the checks
-pub code-gives : (f : List ℕ) → length f ≤ 200 → isTable f ≡ true → codeOfMap f ≡ gives (written (systemOfTable f))
-unfolding codeOfMap checkedTable
-code-gives f h t = rw (le-ltb 200 (length f) h, t)
 
 -- The map that "map of a code" writes has that code.
 pub map-has-code : (b : List ℕ) {before after : List ℕ} {n : ℕ} → allBelow 256 b ≡ true → Replied (mapOfCode b) before (length-is n) after
@@ -63,13 +42,6 @@ map-has-code b {before} {after} {n} h p = of (accepted b) refl p
         ∙ ap (λ R. gives (written R)) (system-of-map S (c .1))
         ∙ ap gives (sym (c .0))
     of (fault c) e q = let z = result-written (fails c) q in (let y = z .1 in clash cc)
-
--- given room for it, a result is what is written
-pub result-fills : {A : Type 0} (l : List A) {before after : List A} {a : Answer} → Replied (gives l) before a after → length l ≤ length before
-    → (a ≡ length-is (length l)) × (take (length l) after ≡ l)
-result-fills l {before} p room =
-    let e = le-leb (length l) (length before) room in
-    (p .reply ∙ rw e, ap (take (length l)) (p .output ∙ rw e) ∙ take-at l (drop (length l) before) (length l) refl)
 
 -- so the code of a map is what "code of a map" writes
 pub code-fills : (f : List ℕ) {before after : List ℕ} {a : Answer} → length f ≤ 200 → isTable f ≡ true → Replied (codeOfMap f) before a after

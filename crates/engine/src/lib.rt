@@ -1,5 +1,7 @@
 // The public entries of the marking engine. None relies on its caller: whatever tables, bytes and buffers come in, the reply and the content of every lent
 // buffer are those of the definitions [crates/patterns/specs/Entry.antt].
+pub use arithmetic_entries::product;
+pub use arithmetic_entries::sum;
 pub use census_entries::census;
 pub use census_entries::census_columns;
 pub use census_entries::cycle_columns;

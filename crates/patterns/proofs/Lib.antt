@@ -6,6 +6,7 @@ pub mod Sheet
 pub mod Totals
 pub mod Causes
 pub mod Numbers
+pub mod Outcomes
 pub mod AcceptanceExamples
 pub mod OnePassExamples
 pub mod TableExamples
@@ -17,5 +18,6 @@ pub mod ComponentExamples
 pub mod ListExamples
 pub mod PageExamples
 pub mod PredecessorExamples
+pub mod ArithmeticExamples
 pub mod CallExamples
 pub mod ListingExamples

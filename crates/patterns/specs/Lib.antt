@@ -14,6 +14,7 @@ pub mod Replies
 pub mod Entry
 pub mod Page
 pub mod Predecessor
+pub mod Arithmetic
 pub mod Calls
 pub mod SignedReplies
 pub mod Decimal

@@ -3,7 +3,7 @@
 use Prim.Native.Nat.{ℕ}
 use Rattle.patterns.specs.Census.{Row}
 use Rattle.patterns.specs.declared.Refusal.{Refusal}
-use Rattle.patterns.specs.declared.Refusal.the-variants.{Count, Image, Truncated, NumberForm, Sizes, NotCanonical, Trailing, Room, Position, Wanted}
+use Rattle.patterns.specs.declared.Refusal.the-variants.{Count, Image, Truncated, NumberForm, Sizes, NotCanonical, Trailing, Room, Position, Wanted, TooLarge}
 use Rattle.patterns.specs.declared.reply.Reply.{Reply}
 use Rattle.patterns.specs.declared.reply.Reply.the-variants.{Length, Refused}
 use Rattle.patterns.specs.declared.reply.Successor.{Successor}
@@ -32,6 +32,7 @@ numberOf Trailing = 7
 numberOf Room = 8
 numberOf Position = 9
 numberOf Wanted = 10
+numberOf TooLarge = 11
 
 -- A reply in document 01's words: a length (or n, or a number of entries), "last", "none", or a refusal with its number; and "first" of document 02, paper 3.
 pub data Answer : Type 0 where

@@ -25,6 +25,7 @@ pub enum Refusal {
     Room,
     Position,
     Wanted,
+    TooLarge,
 }
 
 // The number of a cause.
@@ -42,6 +43,7 @@ pub fn number(cause: Refusal) -> u8
         Refusal::Room => 8,
         Refusal::Position => 9,
         Refusal::Wanted => 10,
+        Refusal::TooLarge => 11,
     }
 }
 

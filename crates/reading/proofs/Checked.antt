@@ -9,7 +9,7 @@ use Rattle.patterns.specs.declared.Refusal.the-variants.{Count, Sizes, NotCanon
 use Rattle.patterns.specs.System.{System, weight, canonical}
 use Rattle.patterns.specs.Reading.{Result, done, fault, andThen, cut, readComponents, finished, readBody, readSystem, accepted}
 use Rattle.reading.specs.Shape.{ended, shapeBody, shape, codeShape}
-use Rattle.reading.proofs.Prefix.{same-results}
+use Rattle.reading.proofs.Prefix.{same-then}
 
 -- the last check
 unfoldable pub checked : System → Result System
@@ -37,7 +37,7 @@ unfolding readBody shapeBody
 body-shape n [] = refl
 body-shape n (m ∷ s) =
     ap (cond (ltb n m || (eqb m 0 && ltb 0 n)) (fault Sizes))
-    (same-results (readComponents m n s) _ _ (λ S. finished-checked S (drop (length S + weight S) s)) ∙ sym (then-then (readComponents m n s) _ checked))
+    (same-then (readComponents m n s) (λ S e. finished-checked S (drop (length S + weight S) s)) ∙ sym (then-then (readComponents m n s) _ checked))
     ∙ sym (then-cond (ltb n m || (eqb m 0 && ltb 0 n)) (fault Sizes) _ checked)
 
 read-shape : (xs : List ℕ) → readSystem xs ≡ andThen (shape xs) checked
@@ -48,4 +48,4 @@ read-shape (n ∷ s) = ap (cond (ltb 200 n) (fault Count)) (body-shape n s) ∙ 
 -- a code is accepted where its shape is in order and the system is canonical
 pub accepted-shape : (b : List ℕ) → accepted b ≡ andThen (codeShape b) checked
 unfolding accepted codeShape
-accepted-shape b = same-results (cut b) readSystem _ read-shape ∙ sym (then-then (cut b) shape checked)
+accepted-shape b = same-then (cut b) (λ xs e. read-shape xs) ∙ sym (then-then (cut b) shape checked)

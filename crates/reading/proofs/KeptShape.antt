@@ -17,7 +17,7 @@ use Rattle.form_theory.proofs.Results.{or-false}
 use Rattle.form_theory.proofs.Readback.{components-points, length-components}
 use Rattle.reading.specs.declared.Accepted.{Accepted}
 use Rattle.reading.specs.Shape.{ended, shapeBody, shape, mostNumbers, keptNumbers, AcceptedInto}
-use Rattle.reading.proofs.Prefix.{same-else, same-results, components-take}
+use Rattle.reading.proofs.Prefix.{same-else, same-then, components-take}
 
 -- A code of at most n points has no more numbers than `mostNumbers` says.
 pub numbers-most : (n : ℕ) (S : System) → each nonempty S ≡ true → weight S ≤ n → length (numbers S) ≤ mostNumbers n
@@ -55,7 +55,7 @@ shape-kept (suc (suc k)) h (n ∷ m ∷ s) =
     same-else (ltb n m || (eqb m 0 && ltb 0 n)) (fault Sizes) (λ fits.
     let o = or-false (ltb n m) (eqb m 0 && ltb 0 n) fits in
     ap (λ r. andThen r (λ S. ended S (drop (length S + weight S) s))) (sym (components-take m n k s (omega (arith, ltb-false 200 n few, ltb-false n m (o .0)))))
-    ∙ same-results (readComponents m n (take k s)) _ _ (λ S. all-used S (length S + weight S) s)))
+    ∙ same-then (readComponents m n (take k s)) (λ S e. all-used S (length S + weight S) s)))
 
 -- more numbers are kept than a code of 200 points has, so they and their count decide
 pub kept-read : {s sizes trees : List ℕ} {count : ℕ} {r : Accepted} → AcceptedInto (keptShape count s) r sizes trees

@@ -12,7 +12,7 @@ use Rattle.patterns.specs.declared.Refusal.the-variants.{Sizes}
 use Rattle.patterns.specs.Tree.{size, graft}
 use Rattle.patterns.specs.Component.{points}
 use Rattle.patterns.specs.Reading.{Result, done, fault, andThen, mapped, readTree, readBranches, readTrees, readComponents}
-use Rattle.form_theory.proofs.Results.{Good, or-false}
+use Rattle.form_theory.proofs.Results.{good-done, or-false}
 use Rattle.form_theory.proofs.ReadFrom.{TreeOf, TreesOf, tree-good, trees-good}
 
 -- what stands behind a fault, or in the arm that is not chosen, does not matter
@@ -20,13 +20,9 @@ pub same-else : {A : Type 0} (b : Bool) (x : A) {y z : A} → (b ≡ false → y
 same-else true x f = refl
 same-else false x f = f refl
 
-same-then : {A B : Type 0} (Q : A → Type 0) (r : Result A) {f g : A → Result B} → Good Q r → ((x : A) → Q x → f x ≡ g x) → andThen r f ≡ andThen r g
-same-then Q (done x) q h = h x q
-same-then Q (fault c) q h = refl
-
-pub same-results : {A B : Type 0} (r : Result A) (f g : A → Result B) → ((x : A) → f x ≡ g x) → andThen r f ≡ andThen r g
-same-results (done x) f g h = h x
-same-results (fault c) f g h = refl
+pub same-then : {A B : Type 0} (r : Result A) {f g : A → Result B} → ((x : A) → r ≡ done x → f x ≡ g x) → andThen r f ≡ andThen r g
+same-then (done x) h = h x refl
+same-then (fault c) h = refl
 
 mutual
   unfolding readTree
@@ -46,7 +42,7 @@ mutual
   branches-take (suc f) left j s h =
       same-else (eqb left 0) (done []) (λ e.
       ap (λ r. andThen r (λ t. mapped (t ∷_) (readBranches f (left - size t) (drop (size t) (take j s))))) (tree-take f left j s h (omega (arith, eqb-false left 0 e)))
-      ∙ same-then (TreeOf left s) (readTree f left s) (tree-good f left s) (λ t q.
+      ∙ same-then (readTree f left s) (λ t e. let q = good-done (TreeOf left s) (readTree f left s) t e (tree-good f left s) in
       ap (mapped (t ∷_)) (ap (readBranches f (left - size t)) (drop-take (size t) j s) ∙ branches-take f (left - size t) (j - size t) (drop (size t) s) (omega arith))))
 
 -- k trees, from one number more than there are points left: the number of a tree for which no point is left is looked at too
@@ -55,7 +51,8 @@ unfolding readTrees
 trees-take zero left j s h = refl
 trees-take (suc k) left j s h =
     ap (λ r. andThen r (λ t. mapped (t ∷_) (readTrees k (left - size t) (drop (size t) (take j s))))) (tree-take (suc (left + left)) left j s (omega arith) (omega arith))
-    ∙ same-then (TreeOf left s) (readTree (suc (left + left)) left s) (tree-good (suc (left + left)) left s) (λ t q.
+    ∙ same-then (readTree (suc (left + left)) left s) (λ t e.
+    let q = good-done (TreeOf left s) (readTree (suc (left + left)) left s) t e (tree-good (suc (left + left)) left s) in
     ap (mapped (t ∷_)) (ap (readTrees k (left - size t)) (drop-take (size t) j s) ∙ trees-take k (left - size t) (j - size t) (drop (size t) s) (omega (arith, q .1))))
 
 -- m components, from m numbers and one more than there are points left
@@ -67,5 +64,5 @@ components-take (suc m) left (suc j) [] h = refl
 components-take (suc m) left (suc j) (k ∷ s) h =
     same-else (eqb k 0 || ltb left k) (fault Sizes) (λ e.
     ap (λ r. andThen r (λ c. mapped (c ∷_) (readComponents m (left - points c) (drop (points c) (take j s))))) (trees-take k left j s (omega arith))
-    ∙ same-then (TreesOf k left s) (readTrees k left s) (trees-good k left s) (λ c q.
+    ∙ same-then (readTrees k left s) (λ c r. let q = good-done (TreesOf k left s) (readTrees k left s) c r (trees-good k left s) in
     ap (mapped (c ∷_)) (ap (readComponents m (left - points c)) (drop-take (points c) j s) ∙ components-take m (left - points c) (j - points c) (drop (points c) s) (omega (arith, q .2)))))

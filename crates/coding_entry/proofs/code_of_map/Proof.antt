@@ -1,6 +1,8 @@
 use denote.Ref.{now}
+use Rattle.patterns.specs.Entry.{codeOfMap}
+use Rattle.patterns.proofs.Outcomes.{outcome-refused}
 use Rattle.tables.proofs.Tables.{table-refused, table-checked}
-use Rattle.coding_entry.proofs.CodedPut.{map-refused, map-coded}
+use Rattle.coding_entry.proofs.CodedPut.{map-coded}
 use borrow.Author.Needs.{needs}
 use Rattle.coding_entry.proofs.code_of_map.Statement.{statement}
 use Rattle.coding_entry.proofs.code_of_map.Tie as tie
@@ -13,12 +15,13 @@ abbrev told : tie.After-slice-known2 → tie.After-enum-told
 told c = c .before .before .before .before
 
 returns : tie.Need-returns
+unfolding codeOfMap
 returns c =
     let k = c .before .before in
     let a = start k .args in
     let refused = c .enum-told2 .given in
     rw (refused .1)
-    (map-refused (now (a .table)) (refused .0 .0) (table-refused (now (a .table)) (k .check-table .ensures) (refused .0 .0) (refused .1)) (now (a .out)))
+    (outcome-refused _ (now (a .out)) (refused .0 .0) (table-refused (now (a .table)) (k .check-table .ensures) (refused .0 .0) (refused .1)))
 
 put-code-requires : tie.Need-put-code-requires
 put-code-requires c κs =

@@ -4,7 +4,8 @@ use mathlib.Core.List.{List}
 use Prim.Native.Nat.{ℕ}
 use lib.Seq.{length-take-le}
 use Rattle.patterns.specs.Entry.{mapOfCode}
-use Rattle.acceptance.proofs.Taken.{Taken, code-taken, code-refused, outcome-refused, outcome-taken, taken-held, taken-count, taken-points}
+use Rattle.patterns.proofs.Outcomes.{outcome-refused}
+use Rattle.acceptance.proofs.Taken.{Taken, code-taken, code-refused, outcome-taken, taken-held, taken-count, taken-points}
 use borrow.Author.Needs.{needs}
 use Rattle.decoding_entry.proofs.map_of_code.Statement.{statement}
 use Rattle.decoding_entry.proofs.map_of_code.Tie as tie
@@ -48,7 +49,7 @@ unfolding mapOfCode
 returns c =
     let k = accepting (c .before .before .before) in
     let told = c .before .cause .given in
-    outcome-refused _ (code k) (now (start k .args .out)) (told .0 .0) (code-refused (code k) (k .accept-into .ensures) (told .0 .0) (told .1))
+    outcome-refused _ (now (start k .args .out)) (told .0 .0) (code-refused (code k) (k .accept-into .ensures) (told .0 .0) (told .1))
 
 returns-2 : tie.Need-returns-2
 unfolding mapOfCode

@@ -4,7 +4,8 @@ use Prim.Native.Nat.{ℕ}
 use native.Mathlib.Omega.{arith}
 use lib.ListN.{length-take}
 use Rattle.patterns.specs.Entry.{successorOf}
-use Rattle.acceptance.proofs.Taken.{Taken, code-taken, code-refused, outcome-refused, outcome-taken, taken-points}
+use Rattle.patterns.proofs.Outcomes.{outcome-refused}
+use Rattle.acceptance.proofs.Taken.{Taken, code-taken, code-refused, outcome-taken, taken-points}
 use Rattle.step_replies.proofs.StepReplies.{taken-next}
 use borrow.Author.Needs.{needs}
 use Rattle.successor_entry.proofs.successor.Statement.{statement}
@@ -43,7 +44,7 @@ unfolding successorOf
 returns c =
     let k = accepting (c .before .before .before) in
     let told = c .before .cause .given in
-    outcome-refused _ (code k) (now (start k .args .out)) (told .0 .0) (code-refused (code k) (k .accept-into .ensures) (told .0 .0) (told .1))
+    outcome-refused _ (now (start k .args .out)) (told .0 .0) (code-refused (code k) (k .accept-into .ensures) (told .0 .0) (told .1))
 
 returns-2 : tie.Need-returns-2
 unfolding successorOf

@@ -1,0 +1,4 @@
+-- The laws of one table made of two.
+pub mod Bytes
+pub mod Shifting
+pub mod Pairing

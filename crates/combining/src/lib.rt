@@ -1,0 +1,72 @@
+// One table made of two [document 02, paper 5]: both side by side, or the table of pairs, each half moving by its own table.
+ghost use denote.Ref.{now};
+ghost use mathlib.Core.Path.{_≡_};
+ghost use mathlib.Core.List.{map};
+ghost use Prim.Native.Nat.{_+_, _≤_};
+ghost use Rattle.written.specs.Putting.{placed};
+ghost use Rattle.combining.specs.declared.Operation.the-variants.{Sum, Product};
+ghost use Rattle.combining.specs.Combining.{pointsOf, tableOf, ShiftAsked, CombineAsked};
+
+pub enum Operation {
+    Sum,
+    Product,
+}
+
+// Writes `shift` more than each number of `g` from `at` on.
+fn put_shifted(shift: usize, g: &[u8], out: &mut [u8], at: usize)
+    requires { ⌜ ShiftAsked shift (now g) (now out) at ⌝ }
+    ensures { λ r. ⌜ now (out .exit) ≡ placed at (map (λ y. shift + y) (now (g .entry))) (now (out .entry)) ⌝ }
+{
+    let mut j = 0;
+    while j < g.len() {
+        let y = g[j] as usize;
+        out[at + j] = (shift + y) as u8;
+        j += 1;
+    }
+}
+
+// Writes both tables side by side: the points of the second come after those of the first.
+fn put_sum(f: &[u8], g: &[u8], out: &mut [u8])
+    requires { ⌜ CombineAsked Sum (now f) (now g) (now out) ⌝ }
+    ensures { λ r. ⌜ now (out .exit) ≡ tableOf Sum (now (f .entry)) (now (g .entry)) ⌝ }
+{
+    let n = f.len();
+    put_shifted(0, f, out, 0);
+    put_shifted(n, g, out, n);
+}
+
+// Writes the table of pairs: for each point of the first table a row as long as the second.
+fn put_product(f: &[u8], g: &[u8], out: &mut [u8])
+    requires { ⌜ CombineAsked Product (now f) (now g) (now out) ⌝ }
+    ensures { λ r. ⌜ now (out .exit) ≡ tableOf Product (now (f .entry)) (now (g .entry)) ⌝ }
+{
+    let m = g.len();
+    let mut i = 0;
+    while i < f.len() {
+        let x = f[i] as usize;
+        put_shifted(x * m, g, out, i * m);
+        i += 1;
+    }
+}
+
+// How many points the table has that is made of tables of `n` and `m` points.
+pub fn points(operation: Operation, n: usize, m: usize) -> usize
+    requires { ⌜ (n ≤ 200) × (m ≤ 200) ⌝ }
+    ensures { λ r. ⌜ r ≡ pointsOf operation n m ⌝ }
+{
+    match operation {
+        Operation::Sum => n + m,
+        Operation::Product => n * m,
+    }
+}
+
+// Writes the table that is made of `f` and `g`.
+pub fn combine(operation: Operation, f: &[u8], g: &[u8], out: &mut [u8])
+    requires { ⌜ CombineAsked operation (now f) (now g) (now out) ⌝ }
+    ensures { λ r. ⌜ now (out .exit) ≡ tableOf operation (now (f .entry)) (now (g .entry)) ⌝ }
+{
+    match operation {
+        Operation::Sum => put_sum(f, g, out),
+        Operation::Product => put_product(f, g, out),
+    }
+}
