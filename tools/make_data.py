@@ -2,6 +2,7 @@
 """make_data.py [--write]: makes the files of crates/checks/data anew, from tools/plain_listing.py and tools/plain_model.py. They go to target/checks-data and are
 compared with those in crates/checks/data; with --write they go there. tools/README.md says what each file holds."""
 import filecmp
+import math
 import os
 import sys
 
@@ -11,7 +12,7 @@ import plain_model as model
 TOP = os.path.join(os.path.dirname(os.path.realpath(__file__)), "..")
 KEPT = os.path.join(TOP, "crates", "checks", "data")
 MADE = KEPT if sys.argv[1:] == ["--write"] else os.path.join(TOP, "target", "checks-data")
-ACCEPT, FIRST, SUCCESSOR, CODE_OF_MAP, MAP_OF_CODE, ISOMORPHISM, CENSUS, PREDECESSOR = range(1, 9)
+ACCEPT, FIRST, SUCCESSOR, CODE_OF_MAP, MAP_OF_CODE, ISOMORPHISM, CENSUS, PREDECESSOR, SUM, PRODUCT = range(1, 11)
 KINDS = {"length": 0, "last": 1, "none": 2, "refused": 3, "first": 4, "census": 0, "part": 0, "page": 0}
 WIDE = 1000
 WIDEST = 10000
@@ -95,6 +96,16 @@ def isomorphism(f, g, room, answer):
     return case(ISOMORPHISM, room, stretch(f), stretch(g), answer)
 
 
+def sum_of_codes(a, b, room=WIDE, lengths=(None, None)):
+    inputs = [*map(repeated, (a, b), lengths)]
+    return case(SUM, room, *map(stretch, (a, b), lengths), model.sum_of_codes(*inputs, room))
+
+
+def product_of_codes(a, b, room=WIDE, lengths=(None, None)):
+    inputs = [*map(repeated, (a, b), lengths)]
+    return case(PRODUCT, room, *map(stretch, (a, b), lengths), model.product_of_codes(*inputs, room))
+
+
 def census(table, room=19):
     return case(CENSUS, room, stretch(table), [0, 0], model.census(table, room))
 
@@ -145,6 +156,9 @@ def examples():
     def refused(code, cause):
         return given(accept(code), "refused", cause)
 
+    def found(line, code):
+        return given(line, "length", len(code), code)
+
     zero = given(successor([0, 0]), "last", 0)
     lines = [coded([], [0, 0]), zero]
     lines += [coded([1, 2, 0], [3, 1, 3, 1, 1, 1]), coded([0, 0, 0], [3, 1, 1, 3, 1, 1]), coded([0, 0, 1], [3, 1, 1, 3, 2, 1])]
@@ -171,6 +185,19 @@ def examples():
     lines += [preceded(b, a) for a, b in zip(three, three[1:])]
     lines.append(preceded([8, 3, 2, 1, 1, 1, 3, 1, 1, 1, 3, 1, 1], [8, 3, 2, 1, 1, 1, 3, 2, 1, 2, 1, 2, 1]))
     lines += [given(predecessor(three[0] + [9], 0), "refused", 7), given(predecessor(three[0], 0), "first", 0), given(predecessor(three[1], 7), "refused", 8)]
+    # paper 5 of document 02: sums and products with the answers that its words give, the neutral systems, 11, and the order of the checks
+    two, leaf, path, empty, one = [2, 1, 2, 1, 1], [2, 1, 1, 2, 1], [3, 1, 1, 3, 2, 1], [0, 0], [1, 1, 1, 1]
+    lines += [found(sum_of_codes(a, b), [5, 2, 2, 1, 1, 1, 3, 2, 1]) for a, b in ((two, path), (path, two))]
+    lines += [found(product_of_codes(a, b), [6, 1, 2, 3, 2, 1, 3, 2, 1]) for a, b in ((two, path), (path, two))]
+    lines += [found(product_of_codes(two, three[3]), [6, 1, 6, 1, 1, 1, 1, 1, 1]), found(product_of_codes(two, two), [4, 2, 2, 1, 1, 2, 1, 1])]
+    lines.append(found(product_of_codes(leaf, leaf), [4, 1, 1, 4, 1, 1, 1]))
+    lines += [found(sum_of_codes(a, b), path) for a, b in ((path, empty), (empty, path))] + [found(sum_of_codes(empty, empty), empty)]
+    lines += [found(product_of_codes(a, b), path) for a, b in ((path, one), (one, path))]
+    most = model.first(200, WIDE)[1]
+    lines += [found(product_of_codes(a, b), empty) for a, b in ((most, empty), (empty, most))] + [found(product_of_codes(most, one, 404), most)]
+    lines += [given(sum_of_codes(most, one), "refused", 11), given(product_of_codes(two, most, 0), "refused", 11), given(product_of_codes(most, one, 403), "refused", 8)]
+    lines += [given(sum_of_codes([3, 1, 2, 2, 1, 1], []), "refused", 6), given(product_of_codes([], [3, 1, 2, 2, 1, 1]), "refused", 3)]
+    lines += [given(sum_of_codes(most, one + [9], 0), "refused", 7), given(product_of_codes(most, [201, 1], 0), "refused", 1)]
     # the order of checks
     lines += [refused([1, 1, 1, 1, 128], 3), refused([1, 1, 1, 1, 129, 0], 4), refused([201, 1, 128], 3)]
     lines += [refused([3, 1, 2, 3, 1, 1], 3), refused([3, 1, 2, 3, 1, 1, 1], 5), refused([2, 1, 1, 1, 9], 5)]
@@ -275,6 +302,11 @@ def hostile():
         lines += [accept(pattern, length) for length in (len(pattern), 404, 1000, 9999, 10000)]
     for pattern in ([0], [1], [128], [255], [200, 1], [200, 1, 200, 1, 1, 1], [129, 0], [3, 1, 1]):
         lines += [predecessor(pattern, room, length) for room, length in ((0, 404), (WIDE, 10000))]
+    # beside a code, and beside each other
+    for combined in (sum_of_codes, product_of_codes):
+        for pattern in ([0], [1], [128], [255], [200, 1], [200, 1, 200, 1, 1, 1], [129, 0], [3, 1, 1]):
+            lines += [combined(pattern, [1, 1, 1, 1], WIDE, (10000, None)), combined([1, 1, 1, 1], pattern, WIDE, (None, 10000))]
+            lines.append(combined(pattern, [128], 0, (404, 10000)))
     return lines
 
 
@@ -576,6 +608,185 @@ def components():
     return lines
 
 
+# ---- sums and products
+
+BOTH = sum_of_codes, product_of_codes
+EMPTY, ONE = [0, 0], [1, 1, 1, 1]
+
+
+def answered(line):
+    """The code that stands in a case as its result."""
+    inputs = line[2:]
+    for _ in range(2):
+        inputs = inputs[2 + inputs[1] :]
+    assert inputs[0] == KINDS["length"] and inputs[1] == inputs[2] == inputs[3] == len(inputs[4:]), line
+    return inputs[4:]
+
+
+def is_known(a, b):
+    """What holds of the sum and the product of two codes, whatever the maps: the components of a sum are those of both; a cycle of k points and one of l make as many
+    cycles as their greatest common divisor says, and a pair is as far from its cycle as the half that is further off."""
+    systems = [*map(model.accepted, (a, b))]
+    (rows, height, _), (others, other_height, _) = [model.census_of_map(model.map_of_system(system)) for system in systems]
+    counts = {}
+    for k, count in rows:
+        for l, other in others:
+            length = k * l // math.gcd(k, l)
+            counts[length] = counts.get(length, 0) + math.gcd(k, l) * count * other
+    kind, total = model.sum_of_codes(a, b, None)
+    assert kind == "refused" or sorted(model.accepted(total)) == sorted(systems[0] + systems[1]), (a, b)
+    kind, product = model.product_of_codes(a, b, None)
+    if kind == "length":
+        found, greatest, _ = model.census_of_map(model.map_of_system(model.accepted(product)))
+        assert found == sorted(counts.items()) and greatest == (max(height, other_height) if rows and others else 0), (a, b)
+
+
+def both_of(a, b, room=WIDE):
+    is_known(a, b)
+    return [combined(a, b, room) for combined in BOTH]
+
+
+def codes_of(n):
+    return [plain_listing.numbers(n, system) for system in plain_listing.systems(n)]
+
+
+def some_code(numbers, n):
+    """The code of a map of n points: any map, or a connected one."""
+    table = random_map(numbers, n) if n == 0 or numbers.below(2) else hung(numbers, n, 1 + numbers.below(min(n, 5)))
+    return model.code_of_map(table, WIDE)[1]
+
+
+def small_sums():
+    """Every two codes of up to 3 points, and some of 4 to 8, the two often of one count; each of these with itself and with the neutral systems."""
+    numbers = Numbers(31)
+    small = [code for n in range(4) for code in codes_of(n)]
+    lines = [line for a in small for b in small for line in both_of(a, b)]
+    larger = [codes_of(n) for n in range(4, 9)]
+    for i in range(30):
+        a, b = [codes[numbers.below(len(codes))] for codes in (larger[i % 5], larger[(i + i // 5 % 3) % 5])]
+        lines += both_of(a, b)
+        if i % 5 == 0:
+            lines += [line for c, d in ((a, a), (a, ONE), (ONE, a), (a, EMPTY), (EMPTY, a)) for line in both_of(c, d)]
+    return lines
+
+
+def laws(a, b, c):
+    """The calls of both sides of each law, in which each result goes on as an input; both sides have to end with the same result."""
+    def equal(left, right):
+        assert answered(left[-1]) == answered(right[-1]), (a, b, c)
+        return left + right
+
+    def then(line, call):
+        return [line, call(answered(line))]
+
+    lines = []
+    for combined in BOTH:
+        lines += equal([combined(a, b)], [combined(b, a)])
+        lines += equal(then(combined(a, b), lambda x: combined(x, c)), then(combined(b, c), lambda x: combined(a, x)))
+    for times in (product_of_codes, lambda x, y: product_of_codes(y, x)):
+        parts = [times(a, c), times(b, c)]
+        lines += equal(then(sum_of_codes(a, b), lambda x: times(x, c)), parts + [sum_of_codes(*map(answered, parts))])
+    return lines
+
+
+def sum_laws():
+    numbers = Numbers(37)
+    lines = []
+    for counts in ((1, 1, 1), (2, 2, 2), (2, 3, 2), (3, 3, 3), (3, 2, 4), (0, 3, 2), (3, 0, 2), (2, 3, 0), (4, 4, 2), (5, 3, 2), (2, 2, 6), (5, 6, 4)):
+        lines += laws(*[some_code(numbers, n) for n in counts])
+    return [list(line) for line in dict.fromkeys(map(tuple, lines))]
+
+
+def star_code(n):
+    return model.code_of_map(star(n), WIDE)[1]
+
+
+def refused_sums():
+    """Every cause in the first code, in the second and in both, also where 11 or 8 would be told next; 11, also where 8 would be told next."""
+    faults = [[201, 1], [], [129, 0], [0, 1], [3, 1, 2, 2, 1, 1], [1, 1, 1, 1, 9]]
+    others = [[200, 1], [128], [128, 128], [1, 0], [3, 2, 2, 1, 1, 1, 1], [0, 0, 0], [0, 0, 128]]
+    good, larges = [3, 1, 1, 3, 2, 1], (star_code(101), star_code(15))
+    lines = []
+    for combined, large in zip(BOTH, larges):
+        lines += [combined(a, b, 0) for a in faults for b in faults]
+        lines += [combined(*pair, room) for fault in faults + others for pair in ((fault, good), (good, fault)) for room in (0, WIDE)]
+        lines += [combined(*pair) for fault in faults + others for pair in ((fault, EMPTY), (EMPTY, fault))]
+        lines += [combined(*pair, 0) for fault in faults for pair in ((fault, large), (large, fault))]
+        lines += [combined(large, large, room) for room in (0, WIDE)]
+    assert {line[-3] for line in lines if line[-4] == KINDS["refused"]} == {1, 3, 4, 5, 6, 7, 11}
+    return lines
+
+
+def sums_in_rooms():
+    """Rooms around the length of a result, which is longer or shorter than the codes that it is made of."""
+    lines = []
+    for combined in BOTH:
+        pairs = [([2, 1, 2, 1, 1],) * 2, ([3, 1, 2, 1, 2, 1],) * 2, ([8, 3, 2, 1, 1, 1, 3, 2, 1, 2, 1, 2, 1], ONE), (EMPTY, [3, 1, 1, 3, 2, 1]), (EMPTY, EMPTY)]
+        for a, b in pairs:
+            length = len(answered(combined(a, b)))
+            lines += [combined(a, b, room) for room in sorted({0, 1, length - 1, length, length + 1, 2000})]
+    return lines
+
+
+def sums():
+    lines = small_sums() + sum_laws() + refused_sums() + sums_in_rooms()
+    return [list(line) for line in dict.fromkeys(map(tuple, lines))]
+
+
+def at_200(combined, given, refused):
+    """Codes of so many points, of maps of several sorts: where the result has up to 200 points, at times with no byte to spare and one too few, and where it has more."""
+    numbers = Numbers(41)
+    kinds = [path_map, cycle_map, lambda n: random_map(numbers, n), star]
+    kinds += [lambda n: [max(x - 1, 0) // 2 for x in range(n)], lambda n: joined(*[[1, 0]] * (n // 2), [0] * (n % 2))]
+    lines = []
+    for i, (n, m) in enumerate(given):
+        tables = kinds[i % len(kinds)](n), kinds[(2 * i + 1) % len(kinds)](m)
+        a, b = [model.code_of_map(table, WIDE)[1] for table in tables]
+        is_known(a, b)
+        length = len(answered(combined(a, b)))
+        lines += [combined(a, b, room) for room in ((length, length - 1) if i % 3 == 0 else (WIDE,))]
+    lines += [combined(star_code(n), star_code(m), (0, WIDE)[i % 2]) for i, (n, m) in enumerate(refused)]
+    assert all(line[-4:-2] == [KINDS["refused"], 11] for line in lines[-len(refused) :])
+    return lines
+
+
+def by_chance(combined, most, beside):
+    """Random codes, the first of at most so many points, the second of at most as many as may stand beside it."""
+    numbers = Numbers(43)
+    lines = []
+    for _ in range(12):
+        n = numbers.below(most + 1)
+        a, b = some_code(numbers, n), some_code(numbers, numbers.below(beside(n) + 1))
+        is_known(a, b)
+        lines.append(combined(a, b))
+        assert answered(lines[-1])
+    return lines
+
+
+def neutral(combined, code):
+    """Each map of 200 points with a neutral system, which stands before it and behind it in turn."""
+    shaped = [model.code_of_map(table, WIDE)[1] for _, table in shapes()]
+    lines = [combined(code, a) if i % 2 else combined(a, code) for i, a in enumerate(shaped)]
+    assert [*map(answered, lines)] == shaped
+    return lines
+
+
+def sums_long():
+    """Sums of 200 points and fewer, and of 201 and more. What is above 255 is small where it is cut to a byte."""
+    given = [(100, 100), (199, 1), (1, 199), (128, 72), (72, 128), (200, 0), (0, 200), (100, 99), (64, 64), (63, 64), (150, 50), (50, 150)]
+    refused = [(100, 101), (101, 100), (200, 1), (1, 200), (199, 2), (128, 128), (200, 56), (56, 200), (200, 200)]
+    return at_200(sum_of_codes, given, refused) + by_chance(sum_of_codes, 200, lambda n: 200 - n) + neutral(sum_of_codes, EMPTY)
+
+
+def products_long():
+    """The same for products."""
+    given = [(14, 14), (200, 1), (1, 200), (100, 2), (2, 100), (20, 10), (10, 20), (50, 4), (5, 40), (25, 8), (13, 15), (66, 3)]
+    given += [(200, 0), (0, 200), (3, 43), (127, 1)]
+    refused = [(67, 3), (3, 67), (14, 15), (15, 14), (101, 2), (200, 2), (2, 200), (29, 7)]
+    refused += [(16, 16), (128, 2), (2, 128), (32, 8), (17, 16), (40, 40), (199, 199), (200, 200)]
+    return at_200(product_of_codes, given, refused) + by_chance(product_of_codes, 40, lambda n: 200 // max(n, 1)) + neutral(product_of_codes, ONE)
+
+
 # ---- pages
 
 
@@ -687,6 +898,7 @@ def main():
     files += [("examples", examples()), ("damaged", damaged()), ("damaged_long", damaged_long()), ("reordered", reordered()), ("hostile", hostile())]
     files += [("keystrokes", keystrokes()), ("rooms", rooms()), ("steps", steps()), ("steps_back", steps_back()), ("codes", codes_of_maps()), ("census", censuses())]
     files += [("components", components()), ("pages", pages()), ("pages_long", pages_long()), ("pairs", pairs())]
+    files += [("sums", sums()), ("sums_long", sums_long()), ("products_long", products_long())]
     other = sum(not save(name, lines) for name, lines in files)
     print(f"{len(files)} files in {os.path.relpath(MADE)}, {other} not as in crates/checks/data")
     return 1 if other else 0

@@ -8,7 +8,7 @@ import functools
 
 from plain_listing import components_of_map, least_rotation, merges, parent, parts, tree_code
 
-COUNT, IMAGE, TRUNCATED, NUMBER_FORM, SIZES, NOT_CANONICAL, TRAILING, ROOM, POSITION, WANTED = range(1, 11)
+COUNT, IMAGE, TRUNCATED, NUMBER_FORM, SIZES, NOT_CANONICAL, TRAILING, ROOM, POSITION, WANTED, TOO_LARGE = range(1, 12)
 MOST_WANTED = 1000
 
 
@@ -336,6 +336,25 @@ def census_of_map(table):
     return rows, max([away for away, _ in walks], default=0), max(lengths, default=0)
 
 
+# ---- sum and product of two maps: points have whatever names are at hand, and a map is a dictionary of arrows
+
+
+def side_by_side(f, g):
+    """Both maps: beside its number a point has that of its map."""
+    return {(here, x): (here, y) for here, table in enumerate((f, g)) for x, y in enumerate(table)}
+
+
+def in_pairs(f, g):
+    """The points are pairs, each half moving by its own map."""
+    return {(x, y): (f[x], g[y]) for x in range(len(f)) for y in range(len(g))}
+
+
+def table_of_arrows(arrows):
+    """The map with its points called 0, 1 and on."""
+    numbers = {name: number for number, name in enumerate(arrows)}
+    return [numbers[arrows[name]] for name in arrows]
+
+
 # ---- the entries: what each answers, given the room of the lent output
 
 
@@ -407,6 +426,27 @@ def code_of_map(table, room):
 
 def map_of_code(code, room):
     return replied(lambda: map_of_system(accepted(code)), room)
+
+
+def combined(first, second, room, both):
+    """The code of what is made of two codes: the checks of the first come before those of the second, then 11."""
+    def work():
+        f = map_of_system(accepted(first))
+        g = map_of_system(accepted(second))
+        arrows = both(f, g)
+        if len(arrows) > 200:
+            raise Refused(TOO_LARGE)
+        return written(system_of_map(table_of_arrows(arrows)))
+
+    return replied(work, room)
+
+
+def sum_of_codes(first, second, room):
+    return combined(first, second, room, side_by_side)
+
+
+def product_of_codes(first, second, room):
+    return combined(first, second, room, in_pairs)
 
 
 def census(table, room):

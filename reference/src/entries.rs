@@ -1,7 +1,7 @@
 //! The entries, each with its order of checks (document 01, "Refusing"; document 02).
 
 use crate::component::Component;
-use crate::map::{checked, cycle_lengths, height as height_of, map_of_system, system_of_map};
+use crate::map::{checked, cycle_lengths, height as height_of, in_pairs, map_of_system, side_by_side, system_of_map};
 use crate::system::{accepted, predecessor as previous, successor as next};
 use crate::written::write;
 use crate::{Cause, MOST_POINTS, MOST_WANTED};
@@ -85,6 +85,24 @@ pub fn code_of_map(table: &[u8], out: &mut [u8]) -> i64 {
 
 pub fn map_of_code(code: &[u8], out: &mut [u8]) -> i64 {
     reply(accepted(code).and_then(|system| put(&map_of_system(&system), out)))
+}
+
+/// The code of a map that is made of the maps of two codes, and has so many points as their counts give.
+fn combined(first: &[u8], second: &[u8], points: fn(usize, usize) -> usize, both: fn(&[u8], &[u8]) -> Vec<u8>) -> Result<Vec<u8>, Cause> {
+    let f = map_of_system(&accepted(first)?);
+    let g = map_of_system(&accepted(second)?);
+    if points(f.len(), g.len()) > MOST_POINTS {
+        return Err(Cause::TooLarge);
+    }
+    Ok(write(&system_of_map(&both(&f, &g)).0).0)
+}
+
+pub fn sum(first: &[u8], second: &[u8], out: &mut [u8]) -> i64 {
+    reply(combined(first, second, |n, m| n + m, side_by_side).and_then(|code| put(&code, out)))
+}
+
+pub fn product(first: &[u8], second: &[u8], out: &mut [u8]) -> i64 {
+    reply(combined(first, second, |n, m| n * m, in_pairs).and_then(|code| put(&code, out)))
 }
 
 /// Points that stand at the same place of the same code are mapped to each other.

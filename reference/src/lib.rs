@@ -6,6 +6,7 @@
 //! notes on the definitions and on how unclear places are read as the authors of the definitions, so a misreading that stands in those notes would stand in both, and
 //! no comparison would show it. The published examples, lists and totals, which both are held against, guard against that.
 //! The step back came later, and its author had read the notes after which the engine's is made; `tools/plain_model.py` looks for it by the step forward alone.
+//! Sum and product came later, too; their author had read the definitions, and numbers the points of a result otherwise than these do.
 //!
 //! A reply is a length or n, minus the number of the cause of a refusal, or one of [`LAST`], [`NONE`] and [`FIRST`]; that of a page is two numbers, [`PageReply`].
 
@@ -34,6 +35,7 @@ pub enum Cause {
     Room = 8,
     Position = 9,
     Wanted = 10,
+    TooLarge = 11,
 }
 
 /// The most points that a map may have.

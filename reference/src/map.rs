@@ -157,6 +157,27 @@ pub fn map_of_system(system: &[Component]) -> Vec<u8> {
     table
 }
 
+/// The table in which the point that x is called goes to what the image of x is called.
+fn rename(f: &[u8], name: impl Fn(usize) -> usize, table: &mut [u8]) {
+    for (x, &image) in f.iter().enumerate() {
+        table[name(x)] = name(image as usize) as u8;
+    }
+}
+
+/// Both maps side by side: as long as each has points left they take turns.
+pub fn side_by_side(f: &[u8], g: &[u8]) -> Vec<u8> {
+    let (n, m) = (f.len(), g.len());
+    let mut table = vec![0; n + m];
+    rename(f, |x| if x < m { 2 * x } else { m + x }, &mut table);
+    rename(g, |y| if y < n { 2 * y + 1 } else { n + y }, &mut table);
+    table
+}
+
+/// The map of pairs, each half moving by its own map. One after another come the pairs with the same second half.
+pub fn in_pairs(f: &[u8], g: &[u8]) -> Vec<u8> {
+    g.iter().flat_map(|&y| f.iter().map(move |&x| (y as usize * f.len() + x as usize) as u8)).collect()
+}
+
 /// The cycle lengths of a map, each with the number of such cycles.
 pub fn cycle_lengths(table: &[u8]) -> Vec<(u8, u8)> {
     let mut counts = [0; MOST_POINTS + 1];

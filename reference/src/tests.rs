@@ -1,4 +1,4 @@
-//! The examples and totals of document 01, and the pages and steps back of document 02.
+//! The examples and totals of document 01, and the pages, steps back, sums and products of document 02.
 
 use crate::*;
 
@@ -216,4 +216,122 @@ fn refused_steps_back() {
     assert_eq!(out, [7; 9]);
     assert_eq!(predecessor(&[3, 1, 3, 1, 1, 1], &mut out), 7);
     assert_eq!(out, [3, 2, 1, 1, 1, 2, 1, 7, 7]);
+}
+
+type Combined = fn(&[u8], &[u8], &mut [u8]) -> i64;
+
+/// The sum or the product of two codes, or the reply.
+fn of_two(entry: Combined, a: &[u8], b: &[u8]) -> Result<Vec<u8>, i64> {
+    written(|out| entry(a, b, out))
+}
+
+/// A point that goes to itself, and n - 1 points that go to it, n below 128.
+fn star(n: u8) -> Vec<u8> {
+    let mut code = vec![n, 1, 1, n];
+    code.resize(n as usize + 3, 1);
+    code
+}
+
+#[test]
+fn sums_and_products() {
+    let (two, three, leaf, path): (&[u8], &[u8], &[u8], &[u8]) = (&[2, 1, 2, 1, 1], &[3, 1, 3, 1, 1, 1], &[2, 1, 1, 2, 1], &[3, 1, 1, 3, 2, 1]);
+    let (empty, one): (&[u8], &[u8]) = (&[0, 0], &[1, 1, 1, 1]);
+    let cases: [(Combined, &[u8], &[u8], &[u8]); 12] = [
+        (sum, two, path, &[5, 2, 2, 1, 1, 1, 3, 2, 1]),
+        (sum, path, two, &[5, 2, 2, 1, 1, 1, 3, 2, 1]),
+        (sum, path, empty, path),
+        (sum, empty, path, path),
+        (sum, empty, empty, empty),
+        (product, two, three, &[6, 1, 6, 1, 1, 1, 1, 1, 1]),
+        (product, two, two, &[4, 2, 2, 1, 1, 2, 1, 1]),
+        (product, leaf, leaf, &[4, 1, 1, 4, 1, 1, 1]),
+        (product, path, two, &[6, 1, 2, 3, 2, 1, 3, 2, 1]),
+        (product, path, one, path),
+        (product, one, path, path),
+        (product, path, empty, empty),
+    ];
+    for (entry, a, b, code) in cases {
+        assert_eq!(of_two(entry, a, b).as_deref(), Ok(code), "{a:?} {b:?}");
+    }
+}
+
+#[test]
+fn refused_sums_and_products() {
+    let bad: [(&[u8], i64); 6] = [(&[201, 1], -1), (&[], -3), (&[129, 0], -4), (&[0, 1], -5), (&[3, 1, 2, 2, 1, 1], -6), (&[1, 1, 1, 1, 9], -7)];
+    for (entry, large) in [(sum as Combined, star(101)), (product, star(15))] {
+        for (code, reply) in bad {
+            assert_eq!(entry(code, &large, &mut []), reply, "{code:?}");
+            assert_eq!(entry(&large, code, &mut []), reply, "{code:?}");
+            for (other, _) in bad {
+                assert_eq!(entry(code, other, &mut []), reply, "{code:?} {other:?}");
+            }
+        }
+        assert_eq!(entry(&large, &large, &mut []), -11);
+    }
+    let mut out = [7; 9];
+    assert_eq!(sum(&[2, 1, 2, 1, 1], &[2, 1, 2, 1, 1], &mut out[..7]), -8);
+    assert_eq!(product(&[2, 1, 2, 1, 1], &star(101), &mut out), -11);
+    assert_eq!(out, [7; 9]);
+    assert_eq!(sum(&[2, 1, 2, 1, 1], &[2, 1, 2, 1, 1], &mut out), 8);
+    assert_eq!(out, [4, 2, 2, 1, 1, 2, 1, 1, 7]);
+    assert_eq!(of_two(sum, &star(100), &star(100)).map(|code| code.len()), Ok(205));
+    assert_eq!(of_two(sum, &star(100), &star(101)), Err(-11));
+    assert_eq!(of_two(product, &star(14), &star(14)).map(|code| code.len()), Ok(201));
+    assert_eq!(of_two(product, &star(67), &star(3)), Err(-11));
+}
+
+/// The parts of the components of a code, sorted.
+fn parts(code: &[u8]) -> Vec<&[u8]> {
+    let part = |i| code.get(component_start(code, i) as usize..component_end(code, i) as usize);
+    let mut parts: Vec<&[u8]> = (0..).map_while(part).collect();
+    parts.sort();
+    parts
+}
+
+#[test]
+fn a_sum_has_the_components_of_both() {
+    let codes: Vec<Vec<u8>> = (0..=5).flat_map(listing).collect();
+    for a in &codes {
+        for b in &codes {
+            let both = of_two(sum, a, b).unwrap();
+            let mut expected = [parts(a), parts(b)].concat();
+            expected.sort();
+            assert_eq!((accept(&both), parts(&both)), (accept(a) + accept(b), expected));
+        }
+    }
+}
+
+#[test]
+fn whatever_maps_have_the_patterns() {
+    let state = &mut 2;
+    for round in 0..3000 {
+        let n = 1 + random(state, if round % 2 == 0 { 199 } else { 30 });
+        let m = if round % 2 == 0 { 200 - n } else { 200 / n };
+        let (f, g) = (some_map(state, n), some_map(state, m));
+        let [a, b] = [&f, &g].map(|table| written(|out| code_of_map(table, out)).unwrap());
+        let (entry, table): (Combined, Vec<u8>) = if round % 2 == 0 {
+            (sum, f.iter().copied().chain(g.iter().map(|&y| n as u8 + y)).collect())
+        } else {
+            (product, f.iter().flat_map(|&x| g.iter().map(move |&y| (x as usize * m + y as usize) as u8)).collect())
+        };
+        assert_eq!(of_two(entry, &a, &b), written(|out| code_of_map(&table, out)));
+    }
+}
+
+#[test]
+fn laws_of_sum_and_product() {
+    let codes: Vec<Vec<u8>> = (0..=4).flat_map(listing).collect();
+    let add = |a: &[u8], b: &[u8]| of_two(sum, a, b).unwrap();
+    let times = |a: &[u8], b: &[u8]| of_two(product, a, b).unwrap();
+    for a in &codes {
+        assert_eq!((add(a, &[0, 0]), times(a, &[1, 1, 1, 1]), times(a, &[0, 0])), (a.clone(), a.clone(), vec![0, 0]));
+        for b in &codes {
+            assert_eq!((add(a, b), times(a, b)), (add(b, a), times(b, a)));
+            for c in codes.iter().filter(|c| c[0] < 4) {
+                assert_eq!(add(&add(a, b), c), add(a, &add(b, c)));
+                assert_eq!(times(&times(a, b), c), times(a, &times(b, c)));
+                assert_eq!(times(&add(a, b), c), add(&times(a, c), &times(b, c)));
+            }
+        }
+    }
 }
