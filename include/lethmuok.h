@@ -40,6 +40,7 @@ enum {
     LETHMUOK_ROOM = -8,          /* the output is shorter than the result */
     LETHMUOK_POSITION = -9,      /* the code has no component at that position */
     LETHMUOK_WANTED = -10,       /* more than 1,000 codes are wanted */
+    LETHMUOK_TOO_LARGE = -11,    /* the result has more than 200 points */
     LETHMUOK_LAST = -100,        /* no code follows in the list */
     LETHMUOK_NONE = -101,        /* there is no isomorphism */
     LETHMUOK_FIRST = -102        /* no code comes before in the list */
@@ -77,6 +78,14 @@ int64_t lethmuok_code_of_map(const uint8_t *table, size_t n, uint8_t *out, size_
 
 /* Writes the table of a map that has this code; answers its number of points. */
 int64_t lethmuok_map_of_code(const uint8_t *code, size_t code_len, uint8_t *out, size_t out_len);
+
+/* Writes the code of two systems side by side; answers its length. The checks of the first code come before those of the second, then LETHMUOK_TOO_LARGE, and
+ * LETHMUOK_ROOM is told after them all. Both inputs may be the same buffer. */
+int64_t lethmuok_sum(const uint8_t *first, size_t first_len, const uint8_t *second, size_t second_len, uint8_t *out, size_t out_len);
+
+/* Writes the code of the system whose points are pairs, each half moving by the map of its own code; answers its length. The checks are those of lethmuok_sum, in the
+ * same order. */
+int64_t lethmuok_product(const uint8_t *first, size_t first_len, const uint8_t *second, size_t second_len, uint8_t *out, size_t out_len);
 
 /* Writes a table r with r(f(x)) = g(r(x)) for every point x, in which every point stands once; answers the number of points, or LETHMUOK_NONE. */
 int64_t lethmuok_isomorphism(const uint8_t *f, size_t f_len, const uint8_t *g, size_t g_len, uint8_t *out, size_t out_len);

@@ -25,6 +25,7 @@ CAUSES = {
     8: "the output is shorter than the result",
     9: "the code has no component at that position",
     10: "more than 1,000 codes are wanted",
+    11: "the result has more than 200 points",
 }
 _LAST = -100
 _NONE = -101
@@ -143,6 +144,18 @@ def map_of_code(code):
     """A map that has this code."""
     out = _room(_MAX_CODE)
     return bytes(out[: _call("lethmuok_map_of_code", _given(code), out)])
+
+
+def sum_of_codes(first, second):
+    """The code of two systems side by side."""
+    out = _room(_MAX_CODE)
+    return bytes(out[: _call("lethmuok_sum", _given(first), _given(second), out)])
+
+
+def product_of_codes(first, second):
+    """The code of the system whose points are pairs, each half moving by the map of its own code."""
+    out = _room(_MAX_CODE)
+    return bytes(out[: _call("lethmuok_product", _given(first), _given(second), out)])
 
 
 def isomorphism(f, g):

@@ -29,6 +29,7 @@ causes! {
     Room = 8, "the output is shorter than the result";
     Position = 9, "the code has no component at that position";
     Wanted = 10, "more than 1,000 codes are wanted";
+    TooLarge = 11, "the result has more than 200 points";
 }
 
 /// What every function answers but `predecessor`, `page` and `component`. A result fills the first places of its buffer; with another reply than a number all buffers are
@@ -81,6 +82,8 @@ mod c {
         pub fn lethmuok_page(code: *const u8, code_len: usize, wanted: usize, out: *mut u8, out_len: usize) -> PageReply;
         pub fn lethmuok_code_of_map(table: *const u8, n: usize, out: *mut u8, out_len: usize) -> i64;
         pub fn lethmuok_map_of_code(code: *const u8, code_len: usize, out: *mut u8, out_len: usize) -> i64;
+        pub fn lethmuok_sum(first: *const u8, first_len: usize, second: *const u8, second_len: usize, out: *mut u8, out_len: usize) -> i64;
+        pub fn lethmuok_product(first: *const u8, first_len: usize, second: *const u8, second_len: usize, out: *mut u8, out_len: usize) -> i64;
         pub fn lethmuok_isomorphism(f: *const u8, f_len: usize, g: *const u8, g_len: usize, out: *mut u8, out_len: usize) -> i64;
         pub fn lethmuok_census(table: *const u8, n: usize, lengths: *mut u8, lengths_len: usize, counts: *mut u8, counts_len: usize) -> i64;
         pub fn lethmuok_height(table: *const u8, n: usize) -> i64;
@@ -145,6 +148,16 @@ pub fn code_of_map(table: &[u8], out: &mut [u8]) -> Reply {
 /// Writes a map that has this code: its number of points.
 pub fn map_of_code(code: &[u8], out: &mut [u8]) -> Reply {
     unsafe { c::lethmuok_map_of_code(code.as_ptr(), code.len(), out.as_mut_ptr(), out.len()) }.into()
+}
+
+/// Writes the code of two systems side by side.
+pub fn sum_of_codes(first: &[u8], second: &[u8], out: &mut [u8]) -> Reply {
+    unsafe { c::lethmuok_sum(first.as_ptr(), first.len(), second.as_ptr(), second.len(), out.as_mut_ptr(), out.len()) }.into()
+}
+
+/// Writes the code of the system whose points are pairs, each half moving by the map of its own code.
+pub fn product_of_codes(first: &[u8], second: &[u8], out: &mut [u8]) -> Reply {
+    unsafe { c::lethmuok_product(first.as_ptr(), first.len(), second.as_ptr(), second.len(), out.as_mut_ptr(), out.len()) }.into()
 }
 
 /// Writes an isomorphism from the map f to the map g, or says `Lacking`.

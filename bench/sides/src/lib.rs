@@ -14,6 +14,8 @@ pub struct Side {
     pub page: fn(&[u8], usize, &mut [u8]) -> PageReply,
     pub code_of_map: fn(&[u8], &mut [u8]) -> i64,
     pub map_of_code: fn(&[u8], &mut [u8]) -> i64,
+    pub sum: fn(&[u8], &[u8], &mut [u8]) -> i64,
+    pub product: fn(&[u8], &[u8], &mut [u8]) -> i64,
     pub isomorphism: fn(&[u8], &[u8], &mut [u8]) -> i64,
     pub census: fn(&[u8], &mut [u8], &mut [u8]) -> i64,
     pub height: fn(&[u8]) -> i64,
@@ -33,6 +35,9 @@ pub const HAS_PAGE: bool = cfg!(not(without_page));
 /// The same of the entry `predecessor`.
 pub const HAS_PREDECESSOR: bool = cfg!(not(without_predecessor));
 
+/// The same of the entries `sum` and `product`, which came together.
+pub const HAS_SUM: bool = cfg!(not(without_sum));
+
 pub const REFERENCE: Side = Side {
     name: "reference",
     accept: reference::accept,
@@ -42,6 +47,8 @@ pub const REFERENCE: Side = Side {
     page: reference::page,
     code_of_map: reference::code_of_map,
     map_of_code: reference::map_of_code,
+    sum: reference::sum,
+    product: reference::product,
     isomorphism: reference::isomorphism,
     census: reference::census,
     height: reference::height,
@@ -63,6 +70,10 @@ mod c {
         pub fn lethmuok_page(code: *const u8, len: usize, wanted: usize, out: *mut u8, room: usize) -> super::PageReply;
         pub fn lethmuok_code_of_map(table: *const u8, n: usize, out: *mut u8, room: usize) -> i64;
         pub fn lethmuok_map_of_code(code: *const u8, len: usize, out: *mut u8, room: usize) -> i64;
+        #[cfg(not(without_sum))]
+        pub fn lethmuok_sum(first: *const u8, len: usize, second: *const u8, other: usize, out: *mut u8, room: usize) -> i64;
+        #[cfg(not(without_sum))]
+        pub fn lethmuok_product(first: *const u8, len: usize, second: *const u8, other: usize, out: *mut u8, room: usize) -> i64;
         pub fn lethmuok_isomorphism(f: *const u8, n: usize, g: *const u8, m: usize, out: *mut u8, room: usize) -> i64;
         pub fn lethmuok_census(table: *const u8, n: usize, lengths: *mut u8, room: usize, counts: *mut u8, other: usize) -> i64;
         pub fn lethmuok_height(table: *const u8, n: usize) -> i64;
@@ -72,7 +83,7 @@ mod c {
     }
 }
 
-// Each call hands over slices that live until it returns, as pointer and count, and no two of them overlap.
+// Each call hands over slices that live until it returns, as pointer and count, and no output overlaps another slice.
 pub const ENGINE: Side = Side {
     name: "engine",
     accept: |code| unsafe { c::lethmuok_accept(code.as_ptr(), code.len()) },
@@ -88,6 +99,14 @@ pub const ENGINE: Side = Side {
     page: |_, _, _| panic!("this library has no page"),
     code_of_map: |table, out| unsafe { c::lethmuok_code_of_map(table.as_ptr(), table.len(), out.as_mut_ptr(), out.len()) },
     map_of_code: |code, out| unsafe { c::lethmuok_map_of_code(code.as_ptr(), code.len(), out.as_mut_ptr(), out.len()) },
+    #[cfg(not(without_sum))]
+    sum: |first, second, out| unsafe { c::lethmuok_sum(first.as_ptr(), first.len(), second.as_ptr(), second.len(), out.as_mut_ptr(), out.len()) },
+    #[cfg(not(without_sum))]
+    product: |first, second, out| unsafe { c::lethmuok_product(first.as_ptr(), first.len(), second.as_ptr(), second.len(), out.as_mut_ptr(), out.len()) },
+    #[cfg(without_sum)]
+    sum: |_, _, _| panic!("this library has no sum"),
+    #[cfg(without_sum)]
+    product: |_, _, _| panic!("this library has no product"),
     isomorphism: |f, g, out| unsafe { c::lethmuok_isomorphism(f.as_ptr(), f.len(), g.as_ptr(), g.len(), out.as_mut_ptr(), out.len()) },
     census: |table, lengths, counts| unsafe {
         c::lethmuok_census(table.as_ptr(), table.len(), lengths.as_mut_ptr(), lengths.len(), counts.as_mut_ptr(), counts.len())

@@ -20,6 +20,10 @@ pub const ISOMORPHISM: usize = 6;
 // The number 7 is that of the census, which is no entry of this crate.
 pub const PREDECESSOR: usize = 8;
 
+pub const SUM: usize = 9;
+
+pub const PRODUCT: usize = 10;
+
 // More room than any output takes.
 const WIDE: usize = 2000;
 
@@ -67,9 +71,22 @@ fn call_on_map(entry: usize, f: &[u8], g: &[u8], out: &mut [u8]) -> Answer {
     unknown(entry)
 }
 
+fn call_on_codes(entry: usize, first: &[u8], second: &[u8], out: &mut [u8]) -> Answer {
+    if entry == SUM {
+        return answers::of_reply(engine::sum(first, second, out));
+    }
+    if entry == PRODUCT {
+        return answers::of_reply(engine::product(first, second, out));
+    }
+    unknown(entry)
+}
+
 fn answer(entry: usize, count: usize, a: &[u8], b: &[u8], out: &mut [u8]) -> Answer {
     if entry <= SUCCESSOR {
         return call_on_code(entry, count, a, out);
+    }
+    if SUM <= entry {
+        return call_on_codes(entry, a, b, out);
     }
     if entry == PREDECESSOR {
         return answers::of_predecessor(engine::predecessor(a, out));

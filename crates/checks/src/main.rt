@@ -29,11 +29,18 @@ fn run_answers() {
     run_file(b"census", b"census");
 }
 
+fn run_sums() {
+    run_file(b"sums", b"sums and products");
+    run_file(b"sums_long", b"long sums");
+    run_file(b"products_long", b"long products");
+}
+
 fn main() {
     run_file(b"examples", b"examples");
     list_checks::run();
     run_refusals();
     run_answers();
+    run_sums();
     page_checks::run(b"pages", b"pages of codes");
     page_checks::run(b"pages_long", b"long pages");
     reader_checks::run(b"components");

@@ -4,7 +4,7 @@ use sides::maps::is_isomorphism;
 use sides::{PageReply, Side, ENGINE, REFERENCE};
 use std::fmt::Write;
 
-pub const ENTRIES: [&str; 13] = [
+pub const ENTRIES: [&str; 15] = [
     "accept",
     "first",
     "successor",
@@ -12,6 +12,8 @@ pub const ENTRIES: [&str; 13] = [
     "page",
     "code_of_map",
     "map_of_code",
+    "sum",
+    "product",
     "isomorphism",
     "census",
     "height",
@@ -110,6 +112,19 @@ impl Comparison {
         });
     }
 
+    /// The same for two inputs. Where one slice is given twice, the entries, too, are given one buffer twice.
+    fn two_buffers(&mut self, entry: &str, [first, second]: [&[u8]; 2], room: usize, call: impl Fn(&Side, &[u8], &[u8], &mut [u8]) -> i64) {
+        let (given, other, mut by_engine, mut by_reference) = (Lent::holding(first), Lent::holding(second), Lent::new(room), Lent::new(room));
+        let (left, right) = (given.lent(), if std::ptr::eq(first, second) { given.lent() } else { other.lent() });
+        let (engine, reference) = (call(&ENGINE, left, right, by_engine.out()), call(&REFERENCE, left, right, by_reference.out()));
+        let kept = *std::hint::black_box(&given) == Lent::holding(first) && *std::hint::black_box(&other) == Lent::holding(second);
+        self.count(entry, engine == reference && by_engine == by_reference && kept, |text| {
+            let (e, r) = (by_engine.out(), by_reference.out());
+            let around = if kept { "kept" } else { "not kept" };
+            write!(text, "engine {engine} {e:?}, reference {reference} {r:?}, room {room}, inputs {around}, {first:?} {second:?}").unwrap()
+        });
+    }
+
     pub fn accept(&mut self, code: &[u8]) {
         self.replies("accept", code, |side| (side.accept)(code));
     }
@@ -147,6 +162,14 @@ impl Comparison {
 
     pub fn map_of_code(&mut self, code: &[u8], room: usize) {
         self.buffers("map_of_code", code, room, |side, code, out| (side.map_of_code)(code, out));
+    }
+
+    pub fn sum(&mut self, first: &[u8], second: &[u8], room: usize) {
+        self.two_buffers("sum", [first, second], room, |side, first, second, out| (side.sum)(first, second, out));
+    }
+
+    pub fn product(&mut self, first: &[u8], second: &[u8], room: usize) {
+        self.two_buffers("product", [first, second], room, |side, first, second, out| (side.product)(first, second, out));
     }
 
     pub fn height(&mut self, table: &[u8]) {

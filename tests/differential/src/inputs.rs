@@ -71,6 +71,16 @@ pub fn two_tables(comparison: &mut Comparison, f: &[u8], g: &[u8]) {
     }
 }
 
+/// Two codes, good or bad.
+pub fn two_codes(comparison: &mut Comparison, a: &[u8], b: &[u8]) {
+    for room in rooms(&written(|out| (REFERENCE.sum)(a, b, out))) {
+        comparison.sum(a, b, room);
+    }
+    for room in rooms(&written(|out| (REFERENCE.product)(a, b, out))) {
+        comparison.product(a, b, room);
+    }
+}
+
 /// Bytes at which the forms of numbers, or the counts, change.
 pub const EDGES: [u8; 12] = [0, 1, 2, 3, 126, 127, 128, 129, 199, 200, 201, 255];
 

@@ -4,9 +4,11 @@
 
 mod compare;
 mod inputs;
+mod laws;
 mod model;
 
 use compare::{Comparison, ENTRIES};
+use laws::Laws;
 use sides::maps::{shuffled, small_components, uniform, KINDS};
 use sides::random::Random;
 use sides::{code_of, written, PageReply, ENGINE, EVERY_PAGE, MOST_WANTED, REFERENCE};
@@ -15,6 +17,10 @@ use std::process::ExitCode;
 
 /// The calls that a run has to make.
 const LEAST_CALLS: u64 = 20_000_000;
+
+/// How often the laws of three codes have to end with a code on both sides, and with 11 on both.
+const LEAST_GIVEN: u64 = 30_000;
+const LEAST_REFUSED: u64 = 5_000;
 
 /// An entry that steps from a code to a neighbour in the list.
 type Step = fn(&[u8], &mut [u8]) -> i64;
@@ -332,14 +338,127 @@ fn whole_pages(comparison: &mut Comparison, random: &mut Random) {
     }
 }
 
+/// Every two codes of up to 5 points, and what holds of them; every three of up to 3.
+fn every_two_codes(comparison: &mut Comparison, laws: &mut Laws) {
+    let small: Vec<Vec<u8>> = (0..=5).flat_map(codes).collect();
+    for a in &small {
+        laws::neutral(comparison, a);
+        for b in &small {
+            inputs::two_codes(comparison, a, b);
+        }
+    }
+    let smaller: Vec<&[u8]> = small.iter().filter(|code| code[0] <= 3).map(|code| &code[..]).collect();
+    for a in &smaller {
+        for b in &smaller {
+            smaller.iter().for_each(|c| laws.of_three(comparison, [a, b, c]));
+        }
+    }
+}
+
+/// Every string of up to two bytes before a code and behind it, and before another such string: the first code decides, and a large result comes after both.
+fn every_short_beside(comparison: &mut Comparison, random: &mut Random) {
+    let codes = [vec![0, 0], vec![3, 1, 1, 3, 2, 1], code_of(&uniform(101, random))];
+    for number in 0..1u32 << 16 {
+        for length in (0..=2).filter(|length| number < 1 << (8 * length)) {
+            let bytes = &number.to_be_bytes()[4 - length..];
+            let (code, other) = (&codes[number as usize % 3], [random.byte(), random.byte()]);
+            for (first, second) in [(bytes, &code[..]), (code, bytes), (bytes, &other[..random.below(3)])] {
+                comparison.sum(first, second, 9 * length);
+                comparison.product(first, second, 9 * length);
+            }
+        }
+    }
+}
+
+/// A map of n points, of some kind; n may be 0.
+fn some_map(n: usize, random: &mut Random) -> Vec<u8> {
+    let (_, kind) = *random.pick(&KINDS);
+    if n == 0 {
+        Vec::new()
+    } else {
+        kind(n, random)
+    }
+}
+
+/// Two counts of points: a sum of 200 or 201 points, or of fewer; a product of about 200 points, or of as few above that as can be; any.
+fn two_counts(random: &mut Random) -> (usize, usize) {
+    let (n, factor) = (random.below(201), 1 + random.below(40));
+    match random.below(6) {
+        0 => (n, 200 - n),
+        1 => (n, (201 - n).min(200)),
+        2 => (n, random.below(201 - n)),
+        3 => (factor, 200 / factor),
+        4 => (1 + factor, 1 + 200 / (1 + factor)),
+        _ => (any_count(random), any_count(random)),
+    }
+}
+
+/// Codes of every kind by two, good and damaged, in both orders, and each with itself.
+fn two_codes(comparison: &mut Comparison, random: &mut Random, rounds: usize) {
+    for _ in 0..rounds {
+        let (n, m) = two_counts(random);
+        let (a, b) = (code_of(&some_map(n, random)), code_of(&some_map(m, random)));
+        inputs::two_codes(comparison, &a, &b);
+        inputs::two_codes(comparison, &b, &a);
+        inputs::two_codes(comparison, &a, &a);
+        let [mut bad, mut worse] = [&a, &b].map(Vec::clone);
+        for code in [&mut bad, &mut worse] {
+            (0..1 + random.below(3)).for_each(|_| inputs::damage(code, random));
+        }
+        for (first, second) in [(&bad, &b), (&a, &worse), (&bad, &worse), (&bad, &bad)] {
+            inputs::two_codes(comparison, first, second);
+        }
+    }
+}
+
+/// Bytes of no special form, up to 10,000, beside a code and beside each other.
+fn noise_by_two(comparison: &mut Comparison, random: &mut Random, rounds: usize) {
+    for round in 0..rounds {
+        let length = if round % 50 == 0 { *random.pick(&[1000, 4000, 10_000]) } else { random.below(30) };
+        let (bytes, other) = (inputs::noise(length, random), inputs::noise(random.below(30), random));
+        let n = random.below(201);
+        let code = code_of(&some_map(n, random));
+        for (first, second) in [(&bytes, &code), (&code, &bytes), (&bytes, &other), (&other, &bytes)] {
+            inputs::two_codes(comparison, first, second);
+        }
+    }
+}
+
+/// Three counts of points, for which the laws are asked of results of every size: small ones; sums of about 200 points; products of about 200.
+fn three_counts(random: &mut Random) -> [usize; 3] {
+    let (few, n) = (1 + random.below(8), random.below(201));
+    let m = random.below(201 - n);
+    match random.below(6) {
+        0 => [random.below(7), random.below(7), random.below(7)],
+        1 => [n, m, 200 - n - m],
+        2 => [n, m, (201 - n - m).min(200)],
+        3 => [n / few, m / few, few],
+        4 => [few, n / few, (200 - n) / few],
+        _ => [random.below(60), random.below(30), random.below(15)],
+    }
+}
+
+/// What holds of two maps of every kind, and of three codes.
+fn laws_by_chance(comparison: &mut Comparison, laws: &mut Laws, random: &mut Random, rounds: usize) {
+    for _ in 0..rounds {
+        let (n, m) = two_counts(random);
+        let (f, g) = (some_map(n, random), some_map(m, random));
+        laws::neutral(comparison, &code_of(&f));
+        laws::of_two(comparison, &f, &g, random);
+        let [a, b, c] = three_counts(random).map(|count| code_of(&some_map(count, random)));
+        laws.of_three(comparison, [&a, &b, &c]);
+    }
+}
+
 /// The number of calls of each entry, and whether the run was long enough and without a difference.
-fn report(comparison: &Comparison) -> bool {
+fn report(comparison: &Comparison, laws: &Laws) -> bool {
     for (entry, calls) in ENTRIES.iter().zip(comparison.calls) {
         println!("{entry:16} {calls:>9} calls");
     }
     let calls: u64 = comparison.calls.iter().sum();
+    println!("laws of three codes: {} times with a code on both sides, {} times with 11, {} times not asked", laws.given, laws.refused, laws.unasked);
     println!("{calls} calls, {} differences", comparison.differences);
-    comparison.differences == 0 && calls >= LEAST_CALLS
+    comparison.differences == 0 && calls >= LEAST_CALLS && laws.given >= LEAST_GIVEN && laws.refused >= LEAST_REFUSED
 }
 
 fn main() -> ExitCode {
@@ -364,7 +483,13 @@ fn main() -> ExitCode {
     whole_pages(comparison, random);
     keystrokes(comparison, random);
     edges(comparison, random, 500_000);
-    if report(comparison) {
+    let laws = &mut Laws::default();
+    every_two_codes(comparison, laws);
+    every_short_beside(comparison, random);
+    two_codes(comparison, random, 5_000);
+    noise_by_two(comparison, random, 8_000);
+    laws_by_chance(comparison, laws, random, 15_000);
+    if report(comparison, laws) {
         ExitCode::SUCCESS
     } else {
         ExitCode::FAILURE

@@ -49,13 +49,33 @@ fn answer(side: &Side, entry: usize, room: usize, first: &(usize, Vec<u8>), seco
         5 => (side.map_of_code)(input, &mut out),
         6 => (side.isomorphism)(input, second, &mut out),
         8 => (side.predecessor)(input, &mut out),
+        9 => (side.sum)(input, second, &mut out),
+        10 => (side.product)(input, second, &mut out),
         _ => panic!("no entry {entry}"),
     };
     out.truncate(reply.max(0) as usize);
     (reply, out)
 }
 
-const NAMES: [&str; 9] = ["", "accept", "first", "successor", "code_of_map", "map_of_code", "isomorphism", "census", "predecessor"];
+const NAMES: [&str; 11] = ["", "accept", "first", "successor", "code_of_map", "map_of_code", "isomorphism", "census", "predecessor", "sum", "product"];
+
+/// The files of cases.
+const FILES: [&str; 14] = [
+    "examples",
+    "damaged",
+    "damaged_long",
+    "reordered",
+    "hostile",
+    "keystrokes",
+    "rooms",
+    "steps",
+    "steps_back",
+    "codes",
+    "census",
+    "sums",
+    "sums_long",
+    "products_long",
+];
 
 /// One line of a file of cases.
 fn case(comparison: &mut Comparison, line: &str) {
@@ -118,7 +138,7 @@ fn listing(comparison: &mut Comparison, n: usize, text: &str) {
 /// All files of the data.
 pub fn run(comparison: &mut Comparison, data: &Path) {
     let read = |name: &str| std::fs::read_to_string(data.join(name)).expect(name);
-    for name in ["examples", "damaged", "damaged_long", "reordered", "hostile", "keystrokes", "rooms", "steps", "steps_back", "codes", "census"] {
+    for name in FILES {
         read(name).lines().for_each(|line| case(comparison, line));
     }
     for name in ["pages", "pages_long"] {
