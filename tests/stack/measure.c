@@ -26,6 +26,17 @@ static void longest_cycle(void) { lethmuok_longest_cycle(table, table_len); }
 static void component_start(void) { lethmuok_component_start(code, code_len, 0); }
 static void component_end(void) { lethmuok_component_end(code, code_len, 0); }
 
+/* The code with a neutral one on either side, so that the result has as many points, and with itself. */
+static void with_both_sides(int64_t of(const uint8_t *, size_t, const uint8_t *, size_t, uint8_t *, size_t), const uint8_t *neutral, size_t neutral_len)
+{
+    of(code, code_len, neutral, neutral_len, out, sizeof out);
+    of(neutral, neutral_len, code, code_len, out, sizeof out);
+    of(code, code_len, code, code_len, out, sizeof out);
+}
+
+static void sum(void) { with_both_sides(lethmuok_sum, (const uint8_t[]){0, 0}, 2); }
+static void product(void) { with_both_sides(lethmuok_product, (const uint8_t[]){1, 1, 1, 1}, 4); }
+
 /* A page that fits, and one that does not. */
 static void page(void)
 {
@@ -39,8 +50,8 @@ static struct entry {
     size_t most;
 } entries[] = {
     {"accept", accept, 0}, {"first", first, 0}, {"successor", successor, 0}, {"predecessor", predecessor, 0}, {"page", page, 0}, {"code_of_map", code_of_map, 0},
-    {"map_of_code", map_of_code, 0}, {"isomorphism", isomorphism, 0}, {"census", census, 0}, {"height", height, 0}, {"longest_cycle", longest_cycle, 0},
-    {"component_start", component_start, 0}, {"component_end", component_end, 0},
+    {"map_of_code", map_of_code, 0}, {"sum", sum, 0}, {"product", product, 0}, {"isomorphism", isomorphism, 0}, {"census", census, 0}, {"height", height, 0},
+    {"longest_cycle", longest_cycle, 0}, {"component_start", component_start, 0}, {"component_end", component_end, 0},
 };
 enum { ENTRIES = sizeof entries / sizeof entries[0] };
 

@@ -7,7 +7,7 @@ mod labelg;
 mod work;
 
 use clock::own_seconds;
-use sides::{Side, ENGINE, HAS_PAGE, HAS_PREDECESSOR, REFERENCE};
+use sides::{Side, ENGINE, HAS_PAGE, HAS_PREDECESSOR, HAS_SUM, REFERENCE};
 use work::Work;
 
 /// Each work is repeated so often, what is compared taking turns.
@@ -76,6 +76,9 @@ fn main() {
         table("Pages of up to 1,000 codes of 200 points", work::pages());
     }
     table("Code of a map of 200 points", work::codes());
+    if HAS_SUM {
+        table("Sum and product of two codes, with results of 196 to 200 points", work::sums());
+    }
     table("Isomorphism of two maps of 200 points", work::isomorphisms());
     table("Census of a map of 200 points", work::censuses());
     table("Accept, on codes of 200 points and on other bytes", work::acceptances());

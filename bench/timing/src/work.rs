@@ -188,6 +188,35 @@ pub fn codes() -> Vec<Work> {
     KINDS.iter().map(|&kind| code_of_map(kind.0, tables(kind, 100))).collect()
 }
 
+/// An entry that makes one code of two.
+type Combined = fn(&Side) -> fn(&[u8], &[u8], &mut [u8]) -> i64;
+
+/// The sum or the product of two codes of maps of these kinds, of so many points each.
+fn of_two(name: String, entry: Combined, (first, n): (Kind, usize), (second, m): (Kind, usize)) -> Work {
+    let random = &mut Random::new(4);
+    let pairs = (0..50).map(|_| (entry, code_of(&first.1(n, random)), code_of(&second.1(m, random)))).collect();
+    let given = |_: &_, [engine, reference]: [&Result<Vec<u8>, i64>; 2]| engine.is_ok() && engine == reference;
+    calls(&name, pairs, |side, (entry, a, b), out| entry(side)(a, b, out), given)
+}
+
+/// Of each kind of map the sum of two and the product of two; of some kinds also sums and products with a map of few points.
+pub fn sums() -> Vec<Work> {
+    let (sum, product): (Combined, Combined) = (|side| side.sum, |side| side.product);
+    let cycle = KINDS.into_iter().find(|kind| kind.0 == "one cycle").expect("a kind");
+    let halves = |kind: Kind| of_two(format!("sum: {}, 100 points and 100", kind.0), sum, (kind, 100), (kind, 100));
+    let squares = |kind: Kind| of_two(format!("product: {}, 14 points and 14", kind.0), product, (kind, 14), (kind, 14));
+    let more = |kind: Kind| {
+        let with_cycle = |name: &str, entry: Combined, n: usize, k: usize| {
+            let few = if k == 1 { "a fixed point".into() } else { format!("a cycle of {k}") };
+            of_two(format!("{name}: {}, {n} points, and {few}", kind.0), entry, (kind, n), (cycle, k))
+        };
+        let random = of_two(format!("product: {}, 20 points, and a random map of 10", kind.0), product, (kind, 20), (KINDS[0], 10));
+        [with_cycle("sum", sum, 199, 1), random, with_cycle("product", product, 100, 2), with_cycle("product", product, 200, 1)]
+    };
+    let some = KINDS.into_iter().filter(|kind| ["random", "path", "star", "comb"].contains(&kind.0));
+    KINDS.into_iter().map(halves).chain(KINDS.into_iter().map(squares)).chain(some.flat_map(more)).collect()
+}
+
 /// Each map with a shuffled copy, and random maps with other random maps.
 pub fn isomorphisms() -> Vec<Work> {
     type Pair = (Vec<u8>, Vec<u8>);
