@@ -38,7 +38,7 @@ fn combine_with(operation: Operation, f: &[u8], second: &[u8], out: &mut [u8]) -
 {
     let mut g = points_room();
     match map_of_code(second, &mut g) {
-        Reply::Refused(cause) => Reply::Refused(cause),
+        Reply::Refused(second_cause) => Reply::Refused(second_cause),
         Reply::Length(m) => put_combined(operation, f, &g[..m], out),
     }
 }
@@ -49,7 +49,7 @@ fn combine_codes(operation: Operation, first: &[u8], second: &[u8], out: &mut [u
 {
     let mut f = points_room();
     match map_of_code(first, &mut f) {
-        Reply::Refused(cause) => Reply::Refused(cause),
+        Reply::Refused(first_cause) => Reply::Refused(first_cause),
         Reply::Length(n) => combine_with(operation, &f[..n], second, out),
     }
 }

@@ -42,7 +42,7 @@ combine-with-requires c κs = decoded-checked (decoded (c .before .before))
 returns : tie.Need-returns
 returns c =
     let k : tie.After-map-of-code = c .before .before .before .before in
-    decoded-refused (code k) (k .map-of-code .ensures) (k .before .before .points-room .ensures) (c .before .cause .given .1) _ (now (start k .args .out))
+    decoded-refused (code k) (k .map-of-code .ensures) (k .before .before .points-room .ensures) (c .before .first-cause .given .1) _ (now (start k .args .out))
 
 returns-2 : tie.Need-returns-2
 returns-2 c =

@@ -39,7 +39,7 @@ put-combined-requires c κs = let d = c .before .before in (start (read d) .pre,
 returns : tie.Need-returns
 returns c =
     let k : tie.After-map-of-code = c .before .before .before .before in
-    decoded-refused (code k) (k .map-of-code .ensures) (k .before .before .points-room .ensures) (c .before .cause .given .1) _ (now (start k .args .out))
+    decoded-refused (code k) (k .map-of-code .ensures) (k .before .before .points-room .ensures) (c .before .second-cause .given .1) _ (now (start k .args .out))
 
 returns-2 : tie.Need-returns-2
 returns-2 c =

@@ -24,6 +24,12 @@ turn c = c .before .before
 abbrev start : tie.At-loop Inv-loop μ-loop → tie.Start Inv-loop μ-loop
 start c = c .before .before .before .before
 
+loop-again : tie.Need-loop-again Inv-loop μ-loop
+loop-again c =
+    let call = c .before .before in
+    let k = turn (call .before .before) in
+    pairing-next (k .loop .inv) (start k .pre .room) (omega arith) (call .put-shifted .ensures)
+
 -- the row of an image: its numbers are points of the result
 image-row : (c : tie.After-shared-slice-known3 Inv-loop μ-loop)
     → let a = start (turn c) .args in
@@ -54,12 +60,6 @@ put-shifted-requires c κs =
     let k = turn (c .before) in
     let s = start k in
     shift-asked _ _ (now (s .args .g)) (k .loop .out) (s .pre .second) (row-fits (k .loop .inv) (s .pre .room) (omega arith)) (image-row (c .before))
-
-loop-again : tie.Need-loop-again Inv-loop μ-loop
-loop-again c =
-    let call = c .before .before in
-    let k = turn (call .before .before) in
-    pairing-next (k .loop .inv) (start k .pre .room) (omega arith) (call .put-shifted .ensures)
 
 same-length : tie.Need-same-length Inv-loop μ-loop
 same-length c = pairing-length (c .before .loop .inv) (c .before .before .before .before .before .pre .room)

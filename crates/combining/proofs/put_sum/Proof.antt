@@ -15,15 +15,14 @@ start c = c .before .before .before .before .before
 put-shifted-requires : tie.Need-put-shifted-requires
 put-shifted-requires c κs =
     let s = c .before .before .before .before in
-    shift-asked 0 0 (now (s .args .f)) _ (s .pre .first) (omega (arith, s .pre .room)) (omega (arith, s .pre .room, s .pre .small))
+    shift-asked _ _ (now (s .args .f)) _ (s .pre .first) (omega (arith, s .pre .room)) (omega (arith, s .pre .room, s .pre .small))
 
 put-shifted-requires-2 : tie.Need-put-shifted-requires-2
 put-shifted-requires-2 c κs =
     let call = c .before .before .before in
     let s = start call in
     let kept : length (call .put-shifted .last .1 .1 .0) ≡ length (now (s .args .out)) = call .put-shifted .kept .1 .1 .0 in
-    shift-asked (length (now (s .args .f))) (length (now (s .args .f))) (now (s .args .g)) _ (s .pre .second)
-    (omega (arith, s .pre .room, kept)) (omega (arith, s .pre .room, s .pre .small))
+    shift-asked _ _ (now (s .args .g)) _ (s .pre .second) (omega (arith, s .pre .room, kept)) (omega (arith, s .pre .room, s .pre .small))
 
 returns : tie.Need-returns
 returns c =
