@@ -3,3 +3,6 @@ pub mod Operation
 pub mod Points
 pub mod Sums
 pub mod Products
+pub mod Patterns
+pub mod Systems
+pub mod Codes

@@ -10,6 +10,7 @@ use Rattle.patterns.specs.Isomorphism.{Isomorphism}
 -- op makes a table of two tables, of so many points as count says; renaming the two renames the result; their order and brackets do not matter but for names
 pub record Operation (op : List ℕ → List ℕ → List ℕ) (count : ℕ → ℕ → ℕ) : Type 0 where
   pub counts : (f g : List ℕ) → length (op f g) ≡ count (length f) (length g)
+  pub counts-turned : (n m : ℕ) → count n m ≡ count m n
   pub makes-table : (f g : List ℕ) → isTable f ≡ true → isTable g ≡ true → isTable (op f g) ≡ true
   pub renames : (f g f′ g′ r s : List ℕ) → isTable f ≡ true → isTable g ≡ true → length f′ ≡ length f → length g′ ≡ length g
       → Isomorphism (length f) f f′ r → Isomorphism (length g) g g′ s → Isomorphism (length (op f g)) (op f g) (op f′ g′) (op r s)

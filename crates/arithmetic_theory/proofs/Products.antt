@@ -1,4 +1,4 @@
--- The product of two tables: its points and images; it is a table, renamed with its factors; the order of the factors, brackets, products of sums, and what leaves a table as it is.
+-- The product of two tables: its points and images; it is a table, renamed with its factors; the order of the factors, brackets, products of sums, and the single fixed point.
 use mathlib.Core.Path.{_≡_, refl, ap, ap₂, sym, _∙_}
 use mathlib.Core.Bool.{true}
 use mathlib.Core.List.{List, [], _∷_, _++_, map, map-map, map-id, append-nil}
@@ -10,13 +10,13 @@ use Rattle.lists.specs.Select.{gather, range}
 use Rattle.lists.proofs.Permute.{Perm, perm-path, perm-trans, perm-map, perm-gather, perm-gather-each, perm-length}
 use Rattle.lists.proofs.Members.{of-map, of-gather, gather-append}
 use Rattle.lists.proofs.Places.{range-length, getD-range}
-use Rattle.lists.proofs.Gathering.{map-same, map-gather, gather-gather, gather-map, gather-same, gather-single, getD-map}
+use Rattle.lists.proofs.Gathering.{map-same, map-gather, gather-gather, gather-map, gather-same, getD-map}
 use Rattle.patterns.specs.Table.{image, isTable}
 use Rattle.patterns.specs.Isomorphism.{Isomorphism}
 use Rattle.patterns.specs.Arithmetic.{sumTable, productTable}
 use Rattle.map_theory.proofs.Isomorphisms.{table-below, isomorphism-perm, isomorphism-below}
 use Rattle.arithmetic_theory.proofs.Operation.{Operation}
-use Rattle.lists.proofs.Pieces.{pieces-length, piece-at, pieces-empty, perm-columns, pairs-range, pair-below, by-pair}
+use Rattle.lists.proofs.Pieces.{pieces-length, piece-at, perm-columns, pairs-range, pair-below, by-pair}
 use Rattle.arithmetic_theory.proofs.Points.{table-member, table-of-members, isomorphism-of-perm}
 
 -- the pairs of x and the entries of g
@@ -98,8 +98,8 @@ product-exchanged f g t u =
     let m = length g in (
       turned n m,
       product-isomorphism f g (productTable g f) (turned n m) (turned-perm n m) (λ x y h k.
-      turned-at n m (image f x) (image g y) (table-below n f refl t x h) (table-below m g refl u y k)
-      ∙ sym (ap (image (productTable g f)) (turned-at n m x y h k) ∙ product-at g f refl y x k h)),
+          turned-at n m (image f x) (image g y) (table-below n f refl t x h) (table-below m g refl u y k)
+          ∙ sym (ap (image (productTable g f)) (turned-at n m x y h k) ∙ product-at g f refl y x k h)),
     )
 
 -- the first factor moved by a: the product moves by n = a * length h
@@ -124,19 +124,13 @@ product-of-sum f g h =
     gather-append (row h) f (map (λ y. length f + y) g)
     ∙ ap (productTable f h ++_) (product-moved (length f) (length (productTable f h)) g h (product-points f h))
 
--- the single fixed point as a factor, and the empty table
+-- the single fixed point as a factor
 pub product-one : (g : List ℕ) → productTable (0 ∷ []) g ≡ g
 product-one g =
     append-nil (row g 0)
     ∙ map-same (λ y. 0 * length g + y) (λ y. y) g (λ y m. omega (arith, zero-mul (length g)))
     ∙ map-id g
 
-pub product-one-right : (f : List ℕ) → productTable f (0 ∷ []) ≡ f
-product-one-right f = gather-single (row (0 ∷ [])) (λ x. x) f (λ x m. ap (_∷ []) (omega arith)) ∙ map-id f
-
-pub product-none : (f : List ℕ) → productTable f [] ≡ []
-product-none f = pieces-empty f
-
 pub product-operation : Operation productTable _*_
 product-operation =
-    record { counts = product-points; makes-table = product-table; renames = product-renamed; exchanges = product-exchanged; associates = product-associates }
+    record { counts = product-points; counts-turned = mul-comm; makes-table = product-table; renames = product-renamed; exchanges = product-exchanged; associates = product-associates }

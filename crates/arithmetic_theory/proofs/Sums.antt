@@ -1,7 +1,7 @@
 -- The sum of two tables: its points and images; it is a table, renamed with its parts; the order of the parts, brackets and the empty table.
 use mathlib.Core.Path.{_≡_, refl, ap, subst, sym, _∙_}
 use mathlib.Core.Bool.{true}
-use mathlib.Core.List.{List, [], _++_, map, map-append, map-map, map-id, append-nil, append-assoc}
+use mathlib.Core.List.{List, [], _++_, map, map-append, map-map, map-id, append-assoc}
 use Prim.Native.Nat.{ℕ, _+_, _-_, _≤_, _<_}
 use native.Mathlib.Nat.{zero-add, add-comm}
 use native.Mathlib.Omega.{arith}
@@ -116,12 +116,12 @@ sum-exchanged f g t u =
     let m = length g in (
       behind n m,
       sum-isomorphism f g (sumTable g f) (behind n m) (behind-perm n m)
-      (λ x h.
-      behind-left n m (image f x) (table-below n f refl t x h)
-      ∙ sym (ap (image (sumTable g f)) (behind-left n m x h) ∙ sum-right g f refl x h))
-      (λ y h.
-      behind-right n m (image g y) (table-below m g refl u y h)
-      ∙ sym (ap (image (sumTable g f)) (behind-right n m y h) ∙ sum-left g f y h)),
+          (λ x h.
+          behind-left n m (image f x) (table-below n f refl t x h)
+          ∙ sym (ap (image (sumTable g f)) (behind-left n m x h) ∙ sum-right g f refl x h))
+          (λ y h.
+          behind-right n m (image g y) (table-below m g refl u y h)
+          ∙ sym (ap (image (sumTable g f)) (behind-right n m y h) ∙ sum-left g f y h)),
     )
 
 -- brackets
@@ -137,9 +137,6 @@ sum-associates f g h =
 pub sum-empty : (g : List ℕ) → sumTable [] g ≡ g
 sum-empty g = map-same (λ y. 0 + y) (λ y. y) g (λ y m. zero-add y) ∙ map-id g
 
-pub sum-empty-right : (f : List ℕ) → sumTable f [] ≡ f
-sum-empty-right f = append-nil f
-
 pub sum-operation : Operation sumTable _+_
 sum-operation =
-    record { counts = sum-points; makes-table = sum-table; renames = sum-renamed; exchanges = sum-exchanged; associates = sum-associates }
+    record { counts = sum-points; counts-turned = add-comm; makes-table = sum-table; renames = sum-renamed; exchanges = sum-exchanged; associates = sum-associates }

@@ -4,5 +4,6 @@ pub mod PreviewTheorems
 pub mod CensusTheorems
 pub mod PageTheorems
 pub mod PredecessorTheorems
+pub mod ArithmeticTheorems
 pub mod Demand3
 pub mod Promises

@@ -19,7 +19,7 @@ use Rattle.patterns.specs.declared.Refusal.{Refusal}
 use Rattle.patterns.specs.declared.Refusal.the-variants.{Count}
 use Rattle.patterns.specs.System.{System, weight, canonical, codes}
 use Rattle.patterns.specs.Written.{written}
-use Rattle.patterns.specs.Reading.{Result, done, fault, accepted}
+use Rattle.patterns.specs.Reading.{done, fault, accepted}
 use Rattle.patterns.specs.Replies.{Answer, length-is, last, first-of-list, refused, numberOf}
 use Rattle.patterns.specs.Entry.{Outcome, gives, ends, begins, fails, answered, filled, Replied, listed, firstOf, successorOf}
 use Rattle.patterns.specs.Predecessor.{predecessorOf}
@@ -30,7 +30,7 @@ use Rattle.system_theory.proofs.Step.{step-is, step-keeps}
 use Rattle.system_theory.proofs.StepBack.{stepBack-is, stepBack-within, stepBack-keeps, step-back, back-step, stepBack-first, first-stepBack}
 use Rattle.form_theory.proofs.Bounds.{allBelow}
 use Rattle.form_theory.proofs.WrittenBack.{written-back, written-fits, accepted-is, accepted-canonical}
-use Rattle.patterns.proofs.Outcomes.{result-written, result-fills}
+use Rattle.patterns.proofs.Outcomes.{result-written, result-fills, by-result}
 
 -- any call that finds o, with a buffer of at least 1,000 bytes, writes exactly b
 abbrev pub Returns : Outcome ℕ → List ℕ → Type 0
@@ -107,14 +107,6 @@ module _ (b : List ℕ) (S : System) (bytes : allBelow 256 b ≡ true) (e : acce
   pub back-forward : Replied (predecessorOf b) before a after → (a ≡ first-of-list) ⊎ ((n : ℕ) × (a ≡ length-is n) × Returns (successorOf (take n after)) b)
   back-forward = round backward forward back-step b S bytes e room
 
--- a code is accepted or refused
-by-accepted : (b : List ℕ) {P : Type 0} → ((c : Refusal) → accepted b ≡ fault c → P) → ((S : System) → accepted b ≡ done S → P) → P
-by-accepted b {P} f g = of (accepted b) refl
-  where
-    of : (o : Result System) → accepted b ≡ o → P
-    of (fault c) e = f c e
-    of (done S) e = g S e
-
 -- R stands just before S in the list of all codes of as many points
 pub record Before (R S : System) : Type 0 where
   pub earlier : List System
@@ -134,7 +126,7 @@ module _ (b : List ℕ) {before after : List ℕ} where
   predecessor-written p =
       let r = result-written (predecessorOf b) p in
       let g = r .1 in
-      by-accepted b
+      by-result (accepted b)
       (λ c e. let f = backward .refuses b c e in clash cc)
       (λ S e. by-step backward b S e
       (λ w. let f = backward .stops b S e w in clash cc)
@@ -148,7 +140,7 @@ module _ (b : List ℕ) {before after : List ℕ} where
       → (S : System) × (accepted b ≡ done S) × Returns (firstOf (weight S)) b × (after ≡ before)
   unfolding firstOf
   first-only bytes p =
-      by-accepted b
+      by-result (accepted b)
       (λ c e. let q : first-of-list ≡ refused (numberOf c) = p .reply ∙ ap (λ o. answered o before) (backward .refuses b c e) in clash cc)
       (λ S e. by-step backward b S e
       (λ w.
@@ -192,7 +184,7 @@ pub data PredecessorRefusal (b before : List ℕ) : ℕ → Type 0 where
 pub predecessor-refusal : (b : List ℕ) {before after : List ℕ} {c : ℕ} → Replied (predecessorOf b) before (refused c) after
     → PredecessorRefusal b before c × (after ≡ before)
 predecessor-refusal b {before} {after} {c} p =
-    by-accepted b
+    by-result (accepted b)
     (λ x e.
     let g = backward .refuses b x e in
     let q : refused c ≡ refused (numberOf x) = p .reply ∙ ap (λ o. answered o before) g in

@@ -12,7 +12,7 @@ use Rattle.lists.proofs.Tests.{by-test, clash}
 use Rattle.patterns.specs.declared.Refusal.{Refusal}
 use Rattle.patterns.specs.Written.{written}
 use Rattle.patterns.specs.Table.{isTable, systemOfTable}
-use Rattle.patterns.specs.Reading.{Result, fault}
+use Rattle.patterns.specs.Reading.{Result, done, fault}
 use Rattle.patterns.specs.Replies.{Answer, length-is, refused, numberOf}
 use Rattle.patterns.specs.Entry.{Outcome, gives, ends, begins, lacks, fails, outcome, Replied, checkedTable, codeOfMap}
 
@@ -37,6 +37,11 @@ pub result-fills : {A : Type 0} (l : List A) {before after : List A} {a : Answer
 result-fills l {before} p room =
     let e = le-leb (length l) (length before) room in
     (p .reply ∙ rw e, ap (take (length l)) (p .output ∙ rw e) ∙ take-at l (drop (length l) before) (length l) refl)
+
+-- something is found, or there is a refusal
+pub by-result : {A P : Type 0} (o : Result A) → ((c : Refusal) → o ≡ fault c → P) → ((x : A) → o ≡ done x → P) → P
+by-result (done x) f g = g x refl
+by-result (fault c) f g = f c refl
 
 -- the reply of an entry that goes on with what was found, where that is a refusal
 pub outcome-refused : {A B : Type 0} {o : Result A} (f : A → Outcome B) (before : List B) (c : Refusal) → o ≡ fault c
