@@ -20,23 +20,23 @@ use Rattle.lists.proofs.Pieces.{pieces-length, piece-at, perm-columns, pairs-ra
 use Rattle.arithmetic_theory.proofs.Points.{table-member, table-of-members, isomorphism-of-perm}
 
 -- the pairs of x and the entries of g
-abbrev row : List ℕ → ℕ → List ℕ
-row g x = map (λ y. x * length g + y) g
+abbrev pairsWith : List ℕ → ℕ → List ℕ
+pairsWith g x = map (λ y. x * length g + y) g
 
 pub product-points : (f g : List ℕ) → length (productTable f g) ≡ length f * length g
-product-points f g = pieces-length (row g) (length g) f (λ x k. length-map g (λ y. x * length g + y))
+product-points f g = pieces-length (pairsWith g) (length g) f (λ x k. length-map g (λ y. x * length g + y))
 
 -- the image of a pair is the pair of the images
 pub product-at : (f g : List ℕ) {m : ℕ} → length g ≡ m → (x y : ℕ) → x < length f → y < m → image (productTable f g) (x * m + y) ≡ image f x * m + image g y
 product-at f g {m} l x y h k =
-    piece-at (row g) m f (λ z i. length-map g (λ y. z * length g + y) ∙ l) 0 0 x y h k
+    piece-at (pairsWith g) m f (λ z i. length-map g (λ y. z * length g + y) ∙ l) 0 0 x y h k
     ∙ getD-map (λ z. image f x * length g + z) g y 0 0 (omega arith)
     ∙ ap (λ c. image f x * c + image g y) l
 
 pub product-table : (f g : List ℕ) → isTable f ≡ true → isTable g ≡ true → isTable (productTable f g) ≡ true
 product-table f g t u =
     table-of-members (length f * length g) (productTable f g) (product-points f g) (λ z m.
-    let p = of-gather (row g) f m in
+    let p = of-gather (pairsWith g) f m in
     let q = of-map (λ y. p .0 * length g + y) g (p .2) in
     omega (arith, q .2, pair-below (table-member f t (p .1)) (table-member g u (q .1))))
 
@@ -54,7 +54,7 @@ product-perm : (n m : ℕ) {r s : List ℕ} → Perm r (range 0 n) → Perm s (r
 product-perm n m {r} {s} p q =
     let pairs : ℕ → List ℕ = λ x. map (λ y. x * m + y) (range 0 m) in
     let l : length s ≡ m = perm-length q ∙ range-length 0 m in
-    perm-trans (perm-gather-each (row s) pairs r (λ x k.
+    perm-trans (perm-gather-each (pairsWith s) pairs r (λ x k.
     perm-trans (perm-map (λ y. x * length s + y) q) (perm-path (ap (λ c. map (λ y. x * c + y) (range 0 m)) l))))
     (perm-trans (perm-gather pairs p) (perm-path (pairs-range n m)))
 
@@ -105,29 +105,29 @@ product-exchanged f g t u =
 -- the first factor moved by a: the product moves by n = a * length h
 product-moved : (a n : ℕ) (g h : List ℕ) → n ≡ a * length h → productTable (map (λ y. a + y) g) h ≡ map (λ v. n + v) (productTable g h)
 product-moved a n g h e =
-    gather-map (row h) (λ y. a + y) g
-    ∙ gather-same (λ y. row h (a + y)) (λ y. map (λ v. n + v) (row h y)) g (λ y i.
+    gather-map (pairsWith h) (λ y. a + y) g
+    ∙ gather-same (λ y. pairsWith h (a + y)) (λ y. map (λ v. n + v) (pairsWith h y)) g (λ y i.
     map-same (λ z. (a + y) * length h + z) (λ z. n + (y * length h + z)) h (λ z j. omega (arith, add-mul a y (length h)))
     ∙ sym (map-map (λ v. n + v) (λ z. y * length h + z) h))
-    ∙ sym (map-gather (λ v. n + v) (row h) g)
+    ∙ sym (map-gather (λ v. n + v) (pairsWith h) g)
 
 -- brackets
 pub product-associates : (f g h : List ℕ) → productTable (productTable f g) h ≡ productTable f (productTable g h)
 product-associates f g h =
-    gather-gather (row h) (row g) f
-    ∙ gather-same (λ x. gather (row h) (row g x)) (row (productTable g h)) f (λ x i.
+    gather-gather (pairsWith h) (pairsWith g) f
+    ∙ gather-same (λ x. gather (pairsWith h) (pairsWith g x)) (pairsWith (productTable g h)) f (λ x i.
     product-moved (x * length g) (x * length (productTable g h)) g h (ap (x *_) (product-points g h) ∙ sym (mul-assoc x (length g) (length h))))
 
 -- the product of a sum is the sum of the products
 pub product-of-sum : (f g h : List ℕ) → productTable (sumTable f g) h ≡ sumTable (productTable f h) (productTable g h)
 product-of-sum f g h =
-    gather-append (row h) f (map (λ y. length f + y) g)
+    gather-append (pairsWith h) f (map (λ y. length f + y) g)
     ∙ ap (productTable f h ++_) (product-moved (length f) (length (productTable f h)) g h (product-points f h))
 
 -- the single fixed point as a factor
 pub product-one : (g : List ℕ) → productTable (0 ∷ []) g ≡ g
 product-one g =
-    append-nil (row g 0)
+    append-nil (pairsWith g 0)
     ∙ map-same (λ y. 0 * length g + y) (λ y. y) g (λ y m. omega (arith, zero-mul (length g)))
     ∙ map-id g
 

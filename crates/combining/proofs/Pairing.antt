@@ -1,4 +1,4 @@
--- Writing the table of pairs, row after row.
+-- Writing the table of pairs, point after point of the first table.
 use mathlib.Core.Path.{_≡_, ap, sym, _∙_}
 use mathlib.Core.List.{List, [], _∷_, _++_, map, append-nil}
 use Prim.Native.Nat.{ℕ, _+_, _*_, _≤_, _<_}
@@ -15,7 +15,7 @@ use Rattle.written.proofs.Placing.{placed-length, placed-none, placed-more}
 use Rattle.arithmetic_theory.proofs.Products.{product-points}
 use Rattle.combining.proofs.Shifting.{placed-all}
 
--- the rows of the first i points stand in the output
+-- the pairs of the first i points stand in the output
 pub record Pairing (f g out₀ out : List ℕ) (i : ℕ) : Type 0 where
   pub within : i ≤ length f
   pub output : out ≡ placed 0 (productTable (take i f) g) out₀
@@ -30,23 +30,23 @@ module _ {f g out₀ out : List ℕ} {i : ℕ} (p : Pairing f g out₀ out i) (r
   pub pairing-length : length out ≡ length out₀
   pairing-length = ap length (p .output) ∙ placed-length 0 (productTable (take i f) g) out₀ (omega (arith, count, mul-le-mul-right (length g) (p .within)))
 
-  -- there is room for one row more
-  pub row-fits : i < length f → i * length g + length g ≤ length out
-  row-fits k = omega (arith, piece-within (length g) k, pairing-length)
+  -- there is room for the pairs of one point more
+  pub pairs-fit : i < length f → i * length g + length g ≤ length out
+  pairs-fit k = omega (arith, piece-within (length g) k, pairing-length)
 
-  -- the row of point i, whose image is x
+  -- the pairs of point i, whose image is x
   pub pairing-next : i < length f → {out′ : List ℕ} → out′ ≡ placed (i * length g) (map (λ y. getD f i 0 * length g + y) g) out → Pairing f g out₀ out′ (i + 1)
   pairing-next k e =
       let done = productTable (take i f) g in
       let x = getD f i 0 in
-      let row = map (λ y. x * length g + y) g in
+      let next = map (λ y. x * length g + y) g in
       let place : 0 + length done ≡ i * length g = omega (arith, count) in
-      let more : productTable (take (i + 1) f) g ≡ done ++ row =
-      rw (add-one i, take-suc f i 0 k) (gather-append (λ x. map (λ y. x * length g + y) g) (take i f) (x ∷ []) ∙ ap (λ r. done ++ r) (append-nil row)) in
+      let more : productTable (take (i + 1) f) g ≡ done ++ next =
+      rw (add-one i, take-suc f i 0 k) (gather-append (λ x. map (λ y. x * length g + y) g) (take i f) (x ∷ []) ∙ ap (λ r. done ++ r) (append-nil next)) in
       record {
         within = omega arith;
         output =
-            e ∙ rw (p .output, ← place) (placed-more 0 done row out₀ (omega (arith, count, row-fits k, pairing-length)))
+            e ∙ rw (p .output, ← place) (placed-more 0 done next out₀ (omega (arith, count, pairs-fit k, pairing-length)))
             ∙ ap (λ l. placed 0 l out₀) (sym more);
       }
 

@@ -13,7 +13,7 @@ pub enum Operation {
 }
 
 // Writes `shift` more than each number of `g` from `at` on.
-fn put_shifted(shift: usize, g: &[u8], out: &mut [u8], at: usize)
+fn shift_into(shift: usize, g: &[u8], out: &mut [u8], at: usize)
     requires { ⌜ ShiftAsked shift (now g) (now out) at ⌝ }
     ensures { λ r. ⌜ now (out .exit) ≡ placed at (map (λ y. shift + y) (now (g .entry))) (now (out .entry)) ⌝ }
 {
@@ -26,17 +26,17 @@ fn put_shifted(shift: usize, g: &[u8], out: &mut [u8], at: usize)
 }
 
 // Writes both tables side by side: the points of the second come after those of the first.
-fn put_sum(f: &[u8], g: &[u8], out: &mut [u8])
+fn sum_into(f: &[u8], g: &[u8], out: &mut [u8])
     requires { ⌜ CombineAsked Sum (now f) (now g) (now out) ⌝ }
     ensures { λ r. ⌜ now (out .exit) ≡ tableOf Sum (now (f .entry)) (now (g .entry)) ⌝ }
 {
     let n = f.len();
-    put_shifted(0, f, out, 0);
-    put_shifted(n, g, out, n);
+    shift_into(0, f, out, 0);
+    shift_into(n, g, out, n);
 }
 
-// Writes the table of pairs: for each point of the first table a row as long as the second.
-fn put_product(f: &[u8], g: &[u8], out: &mut [u8])
+// Writes the table of pairs: for each point of the first table as many places as the second has.
+fn product_into(f: &[u8], g: &[u8], out: &mut [u8])
     requires { ⌜ CombineAsked Product (now f) (now g) (now out) ⌝ }
     ensures { λ r. ⌜ now (out .exit) ≡ tableOf Product (now (f .entry)) (now (g .entry)) ⌝ }
 {
@@ -44,7 +44,7 @@ fn put_product(f: &[u8], g: &[u8], out: &mut [u8])
     let mut i = 0;
     while i < f.len() {
         let x = f[i] as usize;
-        put_shifted(x * m, g, out, i * m);
+        shift_into(x * m, g, out, i * m);
         i += 1;
     }
 }
@@ -66,7 +66,7 @@ pub fn combine(operation: Operation, f: &[u8], g: &[u8], out: &mut [u8])
     ensures { λ r. ⌜ now (out .exit) ≡ tableOf operation (now (f .entry)) (now (g .entry)) ⌝ }
 {
     match operation {
-        Operation::Sum => put_sum(f, g, out),
-        Operation::Product => put_product(f, g, out),
+        Operation::Sum => sum_into(f, g, out),
+        Operation::Product => product_into(f, g, out),
     }
 }

@@ -24,14 +24,15 @@ pub tables-of-two :
     × (productTable [] (1 ∷ 2 ∷ 0 ∷ []) ≡ [])
 tables-of-two = (refl, refl, refl, refl, refl, refl)
 
--- two fixed points side by side, and a cycle of two points with itself
+-- fixed points and cycles of two points side by side, and a cycle of two points with itself
 pub systems-of-two :
     (sumOf fixedPoint fixedPoint ≡ (point ∷ []) ∷ (point ∷ []) ∷ [])
+    × (sumOf ((point ∷ point ∷ []) ∷ []) fixedPoint ≡ (point ∷ []) ∷ (point ∷ point ∷ []) ∷ [])
     × (productOf ((point ∷ point ∷ []) ∷ []) ((point ∷ point ∷ []) ∷ []) ≡ (point ∷ point ∷ []) ∷ (point ∷ point ∷ []) ∷ [])
     × (productOf ((merge point point ∷ []) ∷ []) fixedPoint ≡ (merge point point ∷ []) ∷ [])
     × (productOf emptySystem fixedPoint ≡ [])
 unfolding sumOf productOf
-systems-of-two = (refl, refl, refl, refl)
+systems-of-two = (refl, refl, refl, refl, refl)
 
 -- the codes of the neutral systems
 pub neutral-codes : (written emptySystem ≡ 0 ∷ 0 ∷ []) × (written fixedPoint ≡ 1 ∷ 1 ∷ 1 ∷ 1 ∷ [])

@@ -4,8 +4,8 @@ use native.Mathlib.Omega.{arith}
 use borrow.Author.Needs.{needs}
 use lib.ListN.{length}
 use Rattle.combining.proofs.Shifting.{Shifting, shifting-start, shifting-length, shifting-next, shifting-end}
-use Rattle.combining.proofs.put_shifted.Statement.{statement}
-use Rattle.combining.proofs.put_shifted.Tie as tie
+use Rattle.combining.proofs.shift_into.Statement.{statement}
+use Rattle.combining.proofs.shift_into.Tie as tie
 
 abbrev Inv-loop : tie.InvT-loop
 Inv-loop shift g out₀ at j₀ out j = Shifting (λ y. shift + y) g at out₀ out j
@@ -44,8 +44,8 @@ same-length c = shifting-length (c .before .loop .inv) (c .before .before .pre .
 returns : tie.Need-returns Inv-loop μ-loop
 returns c = shifting-end (c .before .loop .inv) (omega arith)
 
-pub put-shifted-spec : {M : Type 1} → statement M
-put-shifted-spec =
+pub shift-into-spec : {M : Type 1} → statement M
+shift-into-spec =
     tie.close
     (tie.spec
     Inv-loop

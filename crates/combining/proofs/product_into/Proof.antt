@@ -7,9 +7,9 @@ use lib.ListN.{length, getD}
 use Rattle.lists.proofs.Pieces.{piece-within}
 use Rattle.map_theory.proofs.Isomorphisms.{table-below}
 use Rattle.combining.proofs.Bytes.{shift-asked}
-use Rattle.combining.proofs.Pairing.{Pairing, pairing-start, pairing-length, row-fits, pairing-next, pairing-end}
-use Rattle.combining.proofs.put_product.Statement.{statement}
-use Rattle.combining.proofs.put_product.Tie as tie
+use Rattle.combining.proofs.Pairing.{Pairing, pairing-start, pairing-length, pairs-fit, pairing-next, pairing-end}
+use Rattle.combining.proofs.product_into.Statement.{statement}
+use Rattle.combining.proofs.product_into.Tie as tie
 
 abbrev Inv-loop : tie.InvT-loop
 Inv-loop f g out₀ m i₀ out i = Pairing f g out₀ out i
@@ -28,13 +28,13 @@ loop-again : tie.Need-loop-again Inv-loop μ-loop
 loop-again c =
     let call = c .before .before in
     let k = turn (call .before .before) in
-    pairing-next (k .loop .inv) (start k .pre .room) (omega arith) (call .put-shifted .ensures)
+    pairing-next (k .loop .inv) (start k .pre .room) (omega arith) (call .shift-into .ensures)
 
--- the row of an image: its numbers are points of the result
-image-row : (c : tie.After-shared-slice-known3 Inv-loop μ-loop)
+-- the pairs of an image are points of the result
+image-pairs : (c : tie.After-shared-slice-known3 Inv-loop μ-loop)
     → let a = start (turn c) .args in
     getD (now (a .f)) (turn c .loop .i) 0 * length (now (a .g)) + length (now (a .g)) ≤ 200
-image-row c =
+image-pairs c =
     let s = start (turn c) in
     let below = table-below (length (now (s .args .f))) (now (s .args .f)) refl (s .pre .first) (turn c .loop .i) (omega arith) in
     omega (arith, piece-within (length (now (s .args .g))) below, s .pre .room, s .pre .small)
@@ -47,19 +47,19 @@ cast-x c =
     let s = start (turn c) in
     omega (arith, table-below (length (now (s .args .f))) (now (s .args .f)) refl (s .pre .first) (turn c .loop .i) (omega arith))
 
-mul-put-shifted : tie.Need-mul-put-shifted Inv-loop μ-loop
-mul-put-shifted c = omega (arith, image-row c)
+mul-shift-into : tie.Need-mul-shift-into Inv-loop μ-loop
+mul-shift-into c = omega (arith, image-pairs c)
 
-mul-put-shifted-2 : tie.Need-mul-put-shifted-2 Inv-loop μ-loop
-mul-put-shifted-2 c =
+mul-shift-into-2 : tie.Need-mul-shift-into-2 Inv-loop μ-loop
+mul-shift-into-2 c =
     let k = turn (c .before) in
-    omega (arith, row-fits (k .loop .inv) (start k .pre .room) (omega arith), pairing-length (k .loop .inv) (start k .pre .room), start k .pre .small)
+    omega (arith, pairs-fit (k .loop .inv) (start k .pre .room) (omega arith), pairing-length (k .loop .inv) (start k .pre .room), start k .pre .small)
 
-put-shifted-requires : tie.Need-put-shifted-requires Inv-loop μ-loop
-put-shifted-requires c κs =
+shift-into-requires : tie.Need-shift-into-requires Inv-loop μ-loop
+shift-into-requires c κs =
     let k = turn (c .before) in
     let s = start k in
-    shift-asked _ _ (now (s .args .g)) (k .loop .out) (s .pre .second) (row-fits (k .loop .inv) (s .pre .room) (omega arith)) (image-row (c .before))
+    shift-asked _ _ (now (s .args .g)) (k .loop .out) (s .pre .second) (pairs-fit (k .loop .inv) (s .pre .room) (omega arith)) (image-pairs (c .before))
 
 same-length : tie.Need-same-length Inv-loop μ-loop
 same-length c = pairing-length (c .before .loop .inv) (c .before .before .before .before .before .pre .room)
@@ -67,8 +67,8 @@ same-length c = pairing-length (c .before .loop .inv) (c .before .before .before
 returns : tie.Need-returns Inv-loop μ-loop
 returns c = pairing-end (c .before .loop .inv) (c .before .before .before .before .before .pre .room) (omega arith)
 
-pub put-product-spec : {M : Type 1} → statement M
-put-product-spec =
+pub product-into-spec : {M : Type 1} → statement M
+product-into-spec =
     tie.close
     (tie.spec
     Inv-loop
@@ -76,9 +76,9 @@ put-product-spec =
     loop-holds
     (λ c. search needs)
     cast-x
-    mul-put-shifted
-    mul-put-shifted-2
-    put-shifted-requires
+    mul-shift-into
+    mul-shift-into-2
+    shift-into-requires
     (λ c. search needs)
     (λ c. search needs)
     loop-again
