@@ -1,8 +1,8 @@
 -- The laws of sums and products: of tables, of patterns, of systems and of codes.
 pub mod Operation
-pub mod Points
+pub mod PointsOnce
 pub mod Sums
 pub mod Products
-pub mod Patterns
-pub mod Systems
-pub mod Codes
+pub mod SamePatterns
+pub mod SystemLaws
+pub mod CodeLaws

@@ -1,10 +1,10 @@
 -- Writing the system of a table: the components at the leaders of the cycles, from the greatest leader to the least, each inserted among those before.
 use mathlib.Core.Path.{_≡_, refl, ap, sym, subst, _∙_}
 use mathlib.Core.Bool.{true, false}
-use mathlib.Core.List.{List, [], _∷_, _++_, map, append-nil}
+use mathlib.Core.List.{List, [], _∷_, _++_, map}
 use Prim.Native.Nat.{ℕ, _+_, _-_, _≤_, _<_}
 use native.Mathlib.Omega.{arith}
-use lib.ListN.{length, take, length-append, length-map, drop-of-length-le}
+use lib.ListN.{length, take, length-append, length-map}
 use Rattle.lists.specs.Sort.{sort}
 use Rattle.lists.specs.Select.{each, gather, range}
 use Rattle.lists.proofs.Tests.{_∈_, either, each-cons, each-head, each-tail}
@@ -19,7 +19,7 @@ use Rattle.patterns.specs.MapOf.{mapOf}
 use Rattle.patterns.specs.Isomorphism.{Isomorphism}
 use Rattle.patterns.proofs.Trees.{length-flat}
 use Rattle.patterns.proofs.Rotations.{Rotated, rotated-perm, valid-nonempty}
-use Rattle.written.specs.Putting.{placed}
+use Rattle.written.proofs.Placing.{placed-all}
 use Rattle.map_theory.specs.Plants.{Plant, shape, root, labels, shapes, compareShapes, plantsAlong, joined}
 use Rattle.links.specs.Links.{Links}
 use Rattle.arrangement.specs.Arrangement.{Planted}
@@ -40,10 +40,6 @@ valid-count : (S : System) → each validComponent S ≡ true → length S ≤ w
 valid-count [] v = omega arith
 valid-count (c ∷ S) v =
     omega (arith, nonempty-points c (valid-nonempty c (each-head validComponent c S v)), valid-count S (each-tail validComponent c S v))
-
--- what is placed from the beginning and fills the output is all of it
-placed-all : (l d : List ℕ) → length l ≡ length d → placed 0 l d ≡ l
-placed-all l d h = ap (λ r. l ++ r) (drop-of-length-le d {i = 0 + length l} (omega arith)) ∙ append-nil l
 
 abbrev sorted : List (List Plant) → List (List Plant)
 sorted made = sort compareShapes made

@@ -1,4 +1,3 @@
 -- The laws of one table made of two.
-pub mod Bytes
-pub mod Shifting
+pub mod ShiftedNumbers
 pub mod Pairing

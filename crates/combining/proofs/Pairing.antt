@@ -8,12 +8,11 @@ use native.Mathlib.Omega.{arith}
 use lib.ListN.{length, getD, take}
 use lib.Seq.{take-suc, take-all, length-take-le}
 use Rattle.lists.proofs.Members.{gather-append}
-use Rattle.lists.proofs.Pieces.{piece-within}
+use Rattle.lists.proofs.EqualPieces.{piece-within}
 use Rattle.patterns.specs.Arithmetic.{productTable}
 use Rattle.written.specs.Putting.{placed}
-use Rattle.written.proofs.Placing.{placed-length, placed-none, placed-more}
+use Rattle.written.proofs.Placing.{placed-length, placed-none, placed-more, placed-all}
 use Rattle.arithmetic_theory.proofs.Products.{product-points}
-use Rattle.combining.proofs.Shifting.{placed-all}
 
 -- the pairs of the first i points stand in the output
 pub record Pairing (f g out₀ out : List ℕ) (i : ℕ) : Type 0 where
@@ -52,4 +51,4 @@ module _ {f g out₀ out : List ℕ} {i : ℕ} (p : Pairing f g out₀ out i) (r
 
   pub pairing-end : length f ≤ i → out ≡ productTable f g
   pairing-end k =
-      p .output ∙ ap (λ l. placed 0 (productTable l g) out₀) (take-all i f k) ∙ placed-all (productTable f g) out₀ (room ∙ sym (product-points f g))
+      p .output ∙ ap (λ l. placed 0 (productTable l g) out₀) (take-all i f k) ∙ placed-all (productTable f g) out₀ (product-points f g ∙ sym room)

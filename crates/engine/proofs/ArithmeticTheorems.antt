@@ -25,8 +25,8 @@ use Rattle.tables.specs.Tables.{Table}
 use Rattle.arithmetic_theory.proofs.Operation.{Operation}
 use Rattle.arithmetic_theory.proofs.Sums.{sum-operation}
 use Rattle.arithmetic_theory.proofs.Products.{product-operation}
-use Rattle.arithmetic_theory.proofs.Systems.{made, made-weight}
-use Rattle.arithmetic_theory.proofs.Codes.{both-found, given-accepted, combined-maps, sum-codes-commute, product-codes-commute, sum-codes-associate, product-codes-associate, codes-distribute, codes-distribute-left, sum-code-neutral, sum-code-neutral-right, product-code-neutral, product-code-neutral-right, product-code-empty, product-code-empty-right}
+use Rattle.arithmetic_theory.proofs.SystemLaws.{made, made-weight}
+use Rattle.arithmetic_theory.proofs.CodeLaws.{both-found, given-accepted, combined-maps, sum-codes-commute, product-codes-commute, sum-codes-associate, product-codes-associate, codes-distribute, codes-distribute-left, sum-code-neutral, sum-code-neutral-right, product-code-neutral, product-code-neutral-right, product-code-empty, product-code-empty-right}
 
 -- some call that found o wrote the code c
 pub record Wrote (o : Outcome ℕ) (c : List ℕ) : Type 0 where

@@ -14,7 +14,7 @@ pub mod Pigeon
 pub mod Passing
 pub mod RisingPlaces
 pub mod Gathering
-pub mod Pieces
+pub mod EqualPieces
 pub mod Reversed
 pub mod Neighbours
 pub mod Filled

@@ -3,12 +3,12 @@ use mathlib.Core.Path.{_≡_, refl, ap, sym, _∙_}
 use mathlib.Core.List.{List, [], _++_, append-assoc, append-nil}
 use Prim.Native.Nat.{ℕ, _+_, _≤_, _<_}
 use native.Mathlib.Omega.{arith}
-use lib.ListN.{length, getD, length-append, drop-of-length-le}
+use lib.ListN.{length, getD, length-append}
 use Rattle.patterns.specs.Component.{Component, points, flat}
 use Rattle.patterns.specs.System.{System, weight}
 use Rattle.patterns.specs.MapOf.{cycleImages, imagesFrom, mapOf}
 use Rattle.written.specs.Putting.{placed}
-use Rattle.written.proofs.Placing.{placed-none}
+use Rattle.written.proofs.Placing.{placed-none, placed-all}
 use Rattle.memory.specs.Memory.{Holds, Stands}
 use Rattle.mapping.specs.Images.{ComponentStands, MapAsked}
 use Rattle.map_theory.proofs.MapOf.{length-cycleImages, length-imagesFrom}
@@ -54,8 +54,7 @@ unfolding mapOf
 mapping-end {S} {i} {start} {out₀} {out} m h e =
     m .output
     ∙ ap (λ l. placed 0 l out₀) (sym (m .images ∙ ap (λ l. m .done ++ imagesFrom start l) (system-end (m .along) h) ∙ append-nil (m .done)))
-    ∙ ap (λ r. mapOf S ++ r) (drop-of-length-le out₀ {i = 0 + length (imagesFrom 0 S)} (omega (arith, length-imagesFrom 0 S)))
-    ∙ append-nil (mapOf S)
+    ∙ placed-all (mapOf S) out₀ (length-imagesFrom 0 S ∙ sym e)
 
 module _ {sizes trees out₀ out : List ℕ} {i start : ℕ} (a : MapAsked sizes trees out₀) (same : length out ≡ length out₀)
     (inv : (S : System) → Holds S sizes trees → Mapping S i start out₀ out) (h : i < length sizes) where

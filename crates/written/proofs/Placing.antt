@@ -1,11 +1,11 @@
 -- Lists that stand in a lent output from a place on, numbers written there, and a result put into the first places or refused for want of room.
 use mathlib.Core.Path.{_≡_, refl, ap, ap₂, sym, _∙_}
-use mathlib.Core.List.{List, [], _∷_, _++_, append-assoc}
+use mathlib.Core.List.{List, [], _∷_, _++_, append-assoc, append-nil}
 use Prim.Native.Nat.{ℕ, _+_, _/_, _%_, _≤_, _<_}
 use native.Mathlib.Nat.{add-zero}
 use native.Mathlib.Numerals.{add-one}
 use native.Mathlib.Omega.{arith}
-use lib.ListN.{length, take, drop, set, length-append, length-take, length-drop, take-append-drop}
+use lib.ListN.{length, take, drop, set, length-append, length-take, length-drop, take-append-drop, drop-of-length-le}
 use lib.Seq.{set-split, take-at, drop-at, drop-drop, take-length, length-take-le}
 use borrow.Author.Tests.{le-leb, lt-leb}
 use Rattle.patterns.specs.Written.{writeNumber}
@@ -39,6 +39,10 @@ module _ {A : Type 0} where
       sym (drop-drop (length b) n (placed p a d)) ∙ ap (drop (length b)) back ∙ drop-drop (length b) n d in
       let m : p + length (a ++ b) ≡ n + length b = omega (arith, length-append a b) in
       ap₂ (λ x y. x ++ (b ++ y)) front rest ∙ rw (m, append-assoc (take p d) a, append-assoc a b)
+
+  -- as many entries as the output has places
+  pub placed-all : (l d : List A) → length l ≡ length d → placed 0 l d ≡ l
+  placed-all l d e = ap (λ r. l ++ r) (drop-of-length-le d {i = 0 + length l} (omega arith)) ∙ append-nil l
 
 -- nothing was written so far
 pub placed-start : (at : ℕ) (d : List ℕ) → Placed [] at d at d

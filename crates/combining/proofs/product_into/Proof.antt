@@ -4,9 +4,9 @@ use Prim.Native.Nat.{_+_, _*_, _-_, _≤_}
 use native.Mathlib.Omega.{arith}
 use borrow.Author.Needs.{needs}
 use lib.ListN.{length, getD}
-use Rattle.lists.proofs.Pieces.{piece-within}
+use Rattle.lists.proofs.EqualPieces.{piece-within}
 use Rattle.map_theory.proofs.Isomorphisms.{table-below}
-use Rattle.combining.proofs.Bytes.{shift-asked}
+use Rattle.combining.proofs.ShiftedNumbers.{shift-asked}
 use Rattle.combining.proofs.Pairing.{Pairing, pairing-start, pairing-length, pairs-fit, pairing-next, pairing-end}
 use Rattle.combining.proofs.product_into.Statement.{statement}
 use Rattle.combining.proofs.product_into.Tie as tie

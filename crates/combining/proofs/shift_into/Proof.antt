@@ -3,7 +3,7 @@ use Prim.Native.Nat.{_+_, _-_}
 use native.Mathlib.Omega.{arith}
 use borrow.Author.Needs.{needs}
 use lib.ListN.{length}
-use Rattle.combining.proofs.Shifting.{Shifting, shifting-start, shifting-length, shifting-next, shifting-end}
+use Rattle.combining.proofs.ShiftedNumbers.{Shifting, shifting-start, shifting-length, shifting-next, shifting-end}
 use Rattle.combining.proofs.shift_into.Statement.{statement}
 use Rattle.combining.proofs.shift_into.Tie as tie
 

@@ -3,8 +3,7 @@ use mathlib.Core.Path.{_≡_}
 use native.Mathlib.Omega.{arith}
 use borrow.Author.Needs.{needs}
 use lib.ListN.{length}
-use Rattle.combining.proofs.Bytes.{shift-asked}
-use Rattle.combining.proofs.Shifting.{sum-placed}
+use Rattle.combining.proofs.ShiftedNumbers.{sum-placed, shift-asked}
 use Rattle.combining.proofs.sum_into.Statement.{statement}
 use Rattle.combining.proofs.sum_into.Tie as tie
 

@@ -14,7 +14,7 @@ use Rattle.map_theory.proofs.Theorems.{system-of-map, table-canonical, table-we
 use Rattle.arithmetic_theory.proofs.Operation.{Operation}
 use Rattle.arithmetic_theory.proofs.Sums.{sum-operation, sum-empty}
 use Rattle.arithmetic_theory.proofs.Products.{product-operation, product-one, product-of-sum}
-use Rattle.arithmetic_theory.proofs.Patterns.{SamePattern, pattern-self, pattern-of-map, made-alike, made-in-turn}
+use Rattle.arithmetic_theory.proofs.SamePatterns.{SamePattern, pattern-self, pattern-of-map, made-alike, made-in-turn}
 
 -- the system that an operation makes of two
 abbrev pub made : (List ℕ → List ℕ → List ℕ) → System → System → System

@@ -1,20 +1,20 @@
--- Writing the numbers of a list, each greater by the same, place after place; and two lists written so side by side.
-use mathlib.Core.Path.{_≡_, ap, sym, _∙_}
-use mathlib.Core.List.{List, [], _∷_, _++_, map, map-append, map-id, append-nil}
+-- Writing the numbers of a list, each greater by the same, place after place: two lists written so side by side, and when all numbers are bytes.
+use mathlib.Core.Path.{_≡_, refl, ap, sym, _∙_}
+use mathlib.Core.Bool.{true}
+use mathlib.Core.List.{List, [], _∷_, _++_, map, map-append, map-id}
 use Prim.Native.Nat.{ℕ, _+_, _≤_, _<_}
 use native.Mathlib.Numerals.{add-one}
 use native.Mathlib.Omega.{arith}
-use lib.ListN.{length, getD, take, set, length-map, drop-of-length-le}
+use lib.ListN.{length, getD, take, set, length-map}
 use lib.Seq.{take-suc, take-all, length-take-le}
 use Rattle.lists.proofs.Gathering.{map-same}
+use Rattle.patterns.specs.Table.{isTable}
 use Rattle.patterns.specs.Arithmetic.{sumTable}
+use Rattle.map_theory.proofs.Isomorphisms.{table-below}
 use Rattle.arithmetic_theory.proofs.Sums.{sum-points}
 use Rattle.written.specs.Putting.{placed}
-use Rattle.written.proofs.Placing.{placed-length, placed-none, placed-one, placed-more}
-
--- a list as long as the output takes all of it
-pub placed-all : (l d : List ℕ) → length d ≡ length l → placed 0 l d ≡ l
-placed-all l d e = ap (λ r. l ++ r) (drop-of-length-le d {i = 0 + length l} (omega arith)) ∙ append-nil l
+use Rattle.combining.specs.Combining.{ShiftAsked}
+use Rattle.written.proofs.Placing.{placed-length, placed-none, placed-one, placed-more, placed-all}
 
 -- the first j numbers of g, changed by h, stand in the output from `at` on
 pub record Shifting (h : ℕ → ℕ) (g : List ℕ) (at : ℕ) (out₀ out : List ℕ) (j : ℕ) : Type 0 where
@@ -59,4 +59,9 @@ sum-placed f g out {first} {second} room p q =
     ∙ ap (placed (length f) behind) (p ∙ ap (λ l. placed 0 l out) same)
     ∙ ap (λ n. placed n behind (placed 0 f out)) start
     ∙ placed-more 0 f behind out (omega arith)
-    ∙ placed-all (sumTable f g) out (room ∙ sym (sum-points f g))
+    ∙ placed-all (sumTable f g) out (sum-points f g ∙ sym room)
+
+-- a table whose numbers, so much greater, are at most 200
+pub shift-asked : (shift at : ℕ) (g out : List ℕ) → isTable g ≡ true → at + length g ≤ length out → shift + length g ≤ 200 → ShiftAsked shift g out at
+shift-asked shift at g out t room small =
+    record { room = room; bytes = λ j h. omega (arith, table-below (length g) g refl t j h) }

@@ -24,7 +24,7 @@ use Rattle.map_theory.proofs.Theorems.{table-canonical, table-weight}
 use Rattle.arithmetic_theory.proofs.Operation.{Operation}
 use Rattle.arithmetic_theory.proofs.Sums.{sum-operation}
 use Rattle.arithmetic_theory.proofs.Products.{product-operation}
-use Rattle.arithmetic_theory.proofs.Systems.{made, made-table, made-canonical, made-systems, made-commutes, made-associative, product-distributes, sum-neutral, product-neutral, product-empty}
+use Rattle.arithmetic_theory.proofs.SystemLaws.{made, made-table, made-canonical, made-systems, made-commutes, made-associative, product-distributes, sum-neutral, product-neutral, product-empty}
 
 -- the code of a system that was made: 11 above 200 points
 abbrev pub codeOfSystem : System → Outcome ℕ
