@@ -641,9 +641,9 @@ def is_known(a, b):
         assert found == sorted(counts.items()) and greatest == (max(height, other_height) if rows and others else 0), (a, b)
 
 
-def both_of(a, b, room=WIDE):
+def both_of(a, b):
     is_known(a, b)
-    return [combined(a, b, room) for combined in BOTH]
+    return [combined(a, b) for combined in BOTH]
 
 
 def codes_of(n):
@@ -657,7 +657,7 @@ def some_code(numbers, n):
 
 
 def small_sums():
-    """Every two codes of up to 3 points, and some of 4 to 8, the two often of one count; each of these with itself and with the neutral systems."""
+    """Every two codes of up to 3 points, and some of 4 to 8, the two often of one count; some of these with themselves and with the neutral systems."""
     numbers = Numbers(31)
     small = [code for n in range(4) for code in codes_of(n)]
     lines = [line for a in small for b in small for line in both_of(a, b)]

@@ -11,7 +11,7 @@ use std::fmt::Write;
 type Code = Result<Vec<u8>, i64>;
 
 /// The reply to two codes whose result would be above 200 points.
-pub const TOO_LARGE: i64 = -11;
+const TOO_LARGE: i64 = -11;
 
 const EMPTY: [u8; 2] = [0, 0];
 const FIXED_POINT: [u8; 4] = [1, 1, 1, 1];

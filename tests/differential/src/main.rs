@@ -19,7 +19,7 @@ use std::process::ExitCode;
 const LEAST_CALLS: u64 = 20_000_000;
 
 /// How often the laws of three codes have to end with a code on both sides, and with 11 on both.
-const LEAST_GIVEN: u64 = 30_000;
+const LEAST_GIVEN: u64 = 25_000;
 const LEAST_REFUSED: u64 = 5_000;
 
 /// An entry that steps from a code to a neighbour in the list.
@@ -355,14 +355,15 @@ fn every_two_codes(comparison: &mut Comparison, laws: &mut Laws) {
     }
 }
 
-/// Every string of up to two bytes before a code and behind it, and before another such string: the first code decides, and a large result comes after both.
+/// Every string of up to two bytes before some codes and behind them, and before another such string: the first code decides, and a large result comes after both.
 fn every_short_beside(comparison: &mut Comparison, random: &mut Random) {
     let codes = [vec![0, 0], vec![3, 1, 1, 3, 2, 1], code_of(&uniform(101, random))];
     for number in 0..1u32 << 16 {
         for length in (0..=2).filter(|length| number < 1 << (8 * length)) {
             let bytes = &number.to_be_bytes()[4 - length..];
-            let (code, other) = (&codes[number as usize % 3], [random.byte(), random.byte()]);
-            for (first, second) in [(bytes, &code[..]), (code, bytes), (bytes, &other[..random.below(3)])] {
+            let other = [random.byte(), random.byte()];
+            let pairs = codes.iter().flat_map(|code| [(bytes, &code[..]), (&code[..], bytes)]);
+            for (first, second) in pairs.chain([(bytes, &other[..random.below(3)])]) {
                 comparison.sum(first, second, 9 * length);
                 comparison.product(first, second, 9 * length);
             }
@@ -488,7 +489,7 @@ fn main() -> ExitCode {
     every_short_beside(comparison, random);
     two_codes(comparison, random, 5_000);
     noise_by_two(comparison, random, 8_000);
-    laws_by_chance(comparison, laws, random, 15_000);
+    laws_by_chance(comparison, laws, random, 12_000);
     if report(comparison, laws) {
         ExitCode::SUCCESS
     } else {
