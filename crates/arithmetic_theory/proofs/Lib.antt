@@ -5,4 +5,5 @@ pub mod Sums
 pub mod Products
 pub mod SamePatterns
 pub mod SystemLaws
+pub mod SumComponents
 pub mod CodeLaws
