@@ -1,4 +1,4 @@
-// One table made of two [document 02, paper 5]: both side by side, or the table of pairs, each half moving by its own table.
+// One table made of two [document 02, paper 5].
 ghost use denote.Ref.{now};
 ghost use mathlib.Core.Path.{_≡_};
 ghost use mathlib.Core.List.{map};
@@ -7,6 +7,7 @@ ghost use Rattle.written.specs.Putting.{placed};
 ghost use Rattle.combining.specs.declared.Operation.the-variants.{Sum, Product};
 ghost use Rattle.combining.specs.Combining.{pointsOf, tableOf, ShiftAsked, CombineAsked};
 
+// Which table is made of two: that of both side by side, or that of pairs.
 pub enum Operation {
     Sum,
     Product,
