@@ -1,6 +1,5 @@
 -- The laws of sums and products: of tables, of patterns, of systems and of codes.
 pub mod Operation
-pub mod PointsOnce
 pub mod Sums
 pub mod Products
 pub mod SamePatterns

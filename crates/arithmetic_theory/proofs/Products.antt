@@ -14,10 +14,10 @@ use Rattle.lists.proofs.Gathering.{map-same, map-gather, gather-gather, gather-
 use Rattle.patterns.specs.Table.{image, isTable}
 use Rattle.patterns.specs.Isomorphism.{Isomorphism}
 use Rattle.patterns.specs.Arithmetic.{sumTable, productTable}
+use Rattle.map_theory.proofs.PointsOnce.{table-member, table-of-members, isomorphism-of-perm}
 use Rattle.map_theory.proofs.Isomorphisms.{table-below, isomorphism-perm, isomorphism-below}
 use Rattle.arithmetic_theory.proofs.Operation.{Operation}
 use Rattle.lists.proofs.EqualPieces.{pieces-length, piece-at, perm-columns, pairs-range, pair-below, by-pair}
-use Rattle.arithmetic_theory.proofs.PointsOnce.{table-member, table-of-members, isomorphism-of-perm}
 
 -- the pairs of x and the entries of g
 abbrev pairsWith : List ℕ → ℕ → List ℕ

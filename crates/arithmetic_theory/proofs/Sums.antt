@@ -18,10 +18,10 @@ use Rattle.lists.proofs.Gathering.{map-same, getD-map}
 use Rattle.patterns.specs.Table.{image, isTable}
 use Rattle.patterns.specs.Isomorphism.{Isomorphism}
 use Rattle.patterns.specs.Arithmetic.{sumTable}
+use Rattle.map_theory.proofs.PointsOnce.{table-member, table-of-members, isomorphism-of-perm}
 use Rattle.map_theory.proofs.Isomorphisms.{table-below, isomorphism-perm, isomorphism-below}
 use Rattle.arithmetic_theory.proofs.Operation.{Operation}
 use Rattle.lists.proofs.EqualPieces.{range-moved}
-use Rattle.arithmetic_theory.proofs.PointsOnce.{table-member, table-of-members, isomorphism-of-perm}
 
 pub sum-points : (f g : List ℕ) → length (sumTable f g) ≡ length f + length g
 sum-points f g = length-append f (map (λ y. length f + y) g) ∙ ap (λ k. length f + k) (length-map g (λ y. length f + y))

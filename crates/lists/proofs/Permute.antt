@@ -2,7 +2,8 @@
 use mathlib.Core.Path.{_≡_, refl, ap, ap₂, sym, _∙_}
 use mathlib.Core.Bool.{Bool, true, cond}
 use mathlib.Core.List.{List, [], _∷_, _++_, map, List·Memᴰ·head, List·Memᴰ·tail, Memᴰ·cast}
-use Prim.Native.Nat.{ℕ, _+_, _≤_, _<_, Ordering}
+use Prim.Native.Nat.{ℕ, _+_, _*_, _≤_, _<_, Ordering}
+use native.Mathlib.Nat.{mul-zero, mul-add}
 use native.Mathlib.Omega.{arith}
 use lib.Dec.{leb}
 use borrow.Author.Tests.{leb-true, leb-false}
@@ -63,6 +64,14 @@ module _ {A : Type 0} where
       (r .0, List·Memᴰ·tail (r .1), r .2))
       (λ e. (x, List·Memᴰ·head refl, leb-false (g x) 0 e))
 
+  pub total-scale : (k : ℕ) (g : A → ℕ) (l : List A) → total (λ x. k * g x) l ≡ k * total g l
+  total-scale k g [] = sym (mul-zero k)
+  total-scale k g (x ∷ l) = ap (λ t. k * g x + t) (total-scale k g l) ∙ sym (mul-add k (g x) (total g l))
+
+  -- how many entries pass
+  pub length-keep : (p : A → Bool) (l : List A) → length (keep p l) ≡ total (λ x. cond (p x) 1 0) l
+  length-keep p l = sym (total-one (keep p l)) ∙ total-keep (λ x. 1) p l
+
 pub total-map : {A B : Type 0} (g : B → ℕ) (f : A → B) (l : List A) → total g (map f l) ≡ total (λ x. g (f x)) l
 total-map g f [] = refl
 total-map g f (x ∷ l) = ap (λ t. g (f x) + t) (total-map g f l)
@@ -70,6 +79,11 @@ total-map g f (x ∷ l) = ap (λ t. g (f x) + t) (total-map g f l)
 pub total-gather : {A B : Type 0} (g : B → ℕ) (f : A → List B) (l : List A) → total g (gather f l) ≡ total (λ x. total g (f x)) l
 total-gather g f [] = refl
 total-gather g f (x ∷ l) = omega (arith, total-append g (f x) (gather f l), total-gather g f l)
+
+-- by rows or by columns
+pub total-swap : {A B : Type 0} (g : A → B → ℕ) (l : List A) (m : List B) → total (λ x. total (g x) m) l ≡ total (λ y. total (λ x. g x y) l) m
+total-swap g [] m = sym (total-zero m)
+total-swap g (x ∷ l) m = ap (λ t. total (g x) m + t) (total-swap g l m) ∙ sym (total-add (g x) (λ y. total (λ z. g z y) l) m)
 
 -- l and m hold the same entries, each as often
 pub record Perm {A : Type 0} (l m : List A) : Type 0 where
@@ -97,6 +111,16 @@ module _ {A : Type 0} where
 
   pub perm-swap : (x y : A) (l : List A) → Perm (x ∷ y ∷ l) (y ∷ x ∷ l)
   perm-swap x y l = record { totals = λ g. omega arith }
+
+  -- an entry moved to the front
+  pub perm-front : {x : A} {l : List A} → x ∈ l → (m : List A) × Perm l (x ∷ m)
+  perm-front {l = y ∷ l} (List·Memᴰ·head q) = (l, perm-path (ap (λ z. z ∷ l) (sym q)))
+  perm-front {x} {l = y ∷ l} (List·Memᴰ·tail m) =
+      let r = perm-front m in
+      (y ∷ r .0, perm-trans (perm-cons y (r .1)) (perm-swap y x (r .0)))
+
+  pub perm-cancel : (a : List A) {l m : List A} → Perm (a ++ l) (a ++ m) → Perm l m
+  perm-cancel a {l} {m} p = record { totals = λ g. omega (arith, total-append g a l, total-append g a m, p .totals g) }
 
   pub perm-append : {l m l′ m′ : List A} → Perm l m → Perm l′ m′ → Perm (l ++ l′) (m ++ m′)
   perm-append {l} {m} {l′} {m′} p q =

@@ -4,7 +4,7 @@ use mathlib.Core.Path.{_≡_, refl, ap, sym, _∙_}
 use mathlib.Core.List.{List, [], _∷_, map}
 use mathlib.Core.Bool.{Bool, true, cond, _&&_}
 use Prim.Native.Nat.{ℕ, _+_, _-_, _*_, _≤_, _<_, compare}
-use native.Mathlib.Nat.{mul-zero, mul-one, mul-add}
+use native.Mathlib.Nat.{mul-zero, mul-one}
 use native.Mathlib.Omega.{arith}
 use lib.Dec.{leb, eqb}
 use borrow.Author.Tests.{leb-true, leb-false, eqb-true}
@@ -12,14 +12,14 @@ use lib.ListN.{length}
 use Rattle.lists.specs.Order.{same}
 use Rattle.lists.specs.Select.{keep, gather, total, range, times}
 use Rattle.lists.proofs.Tests.{_∈_, by-test, either}
-use Rattle.lists.proofs.Permute.{perm-length, total-one, total-zero, total-add, total-same, total-mono, total-keep, total-map, total-gather}
+use Rattle.lists.proofs.Permute.{perm-length, total-one, total-zero, total-add, total-same, total-mono, total-keep, total-scale, length-keep, total-map, total-gather}
 use Rattle.lists.proofs.Members.{NoDup, in-head, in-tail, in-cons-cases, not-in-nil, in-map, of-map, of-keep, in-range, of-range, nodup-keep, nodup-range}
 use Rattle.lists.proofs.Places.{times-in, in-of-times, times-nodup}
-use Rattle.lists.proofs.Pigeon.{inside-rest, same-members-perm, nodup-below-length}
+use Rattle.lists.proofs.Pigeon.{inside-rest, nodup-below-length}
 use Rattle.patterns.specs.Table.{onCycle, cycleFrom, leaders}
 use Rattle.patterns.specs.Census.{greatest, cycleLengths, cyclesOf, stepsToCycle, height, longestCycle}
 use Rattle.map_theory.proofs.Orbits.{every-point-reaches-cycle, iterate, iterate-inside}
-use Rattle.map_theory.proofs.Leaders.{cycle-nodup, cycle-onCycle, cycle-sym, cycle-trans, one-leader, of-leaders, leader-onCycle, has-leader, cycles-perm}
+use Rattle.map_theory.proofs.Leaders.{cycle-nodup, cycle-perm, one-leader, of-leaders, leader-onCycle, has-leader, cycles-perm}
 
 -- no number of a list exceeds the greatest
 pub greatest-bound : {l : List ℕ} {x : ℕ} → x ∈ l → x ≤ greatest l
@@ -46,10 +46,6 @@ total-twenty : (l : List ℕ) → total (λ x. 20) l ≡ 20 * length l
 total-twenty [] = refl
 total-twenty (x ∷ l) = omega (arith, total-twenty l)
 
-total-scale : (k : ℕ) (g : ℕ → ℕ) (l : List ℕ) → total (λ x. k * g x) l ≡ k * total g l
-total-scale k g [] = sym (mul-zero k)
-total-scale k g (x ∷ l) = ap (λ t. k * g x + t) (total-scale k g l) ∙ sym (mul-add k (g x) (total g l))
-
 -- different numbers from 1 on: k of them have a sum of at least 20 k − 190
 pub different-sum : (l : List ℕ) → NoDup l → ((x : ℕ) → x ∈ l → 0 < x) → 20 * length l ≤ total (λ x. x) l + 190
 different-sum l d h =
@@ -67,11 +63,7 @@ different-sum l d h =
 module _ (n : ℕ) (f : ℕ → ℕ) where
   -- all points of a cycle have cycles of the same length
   pub cycle-length-same : (x : ℕ) {y : ℕ} → onCycle n f x ≡ true → y ∈ cycleFrom n f x → length (cycleFrom n f y) ≡ length (cycleFrom n f x)
-  cycle-length-same x {y} e m =
-      let o = cycle-onCycle n f x e m in
-      perm-length (same-members-perm (cycle-nodup n f y o) (cycle-nodup n f x e)
-      (λ z k. cycle-trans n f x e m k)
-      (λ z k. cycle-trans n f y o (cycle-sym n f x e m) k))
+  cycle-length-same x e m = perm-length (cycle-perm n f x e m)
 
   pub in-cycleLengths : {x : ℕ} → x ∈ leaders n f → length (cycleFrom n f x) ∈ cycleLengths n f
   unfolding cycleLengths
@@ -166,8 +158,7 @@ module _ (n : ℕ) (f : ℕ → ℕ) where
         ∙ total-keep q (onCycle n f) (range 0 n)
         ∙ total-same (λ x. cond (onCycle n f x) (q x) 0) (λ x. cond (onCycle n f x && eqb l (length (cycleFrom n f x))) 1 0) (range 0 n)
         (λ x m. by-test (onCycle n f x) (λ t. rw t) (λ t. rw t))
-        ∙ sym (total-keep (λ x. 1) (λ x. onCycle n f x && eqb l (length (cycleFrom n f x))) (range 0 n))
-        ∙ total-one (keep (λ x. onCycle n f x && eqb l (length (cycleFrom n f x))) (range 0 n))
+        ∙ sym (length-keep (λ x. onCycle n f x && eqb l (length (cycleFrom n f x))) (range 0 n))
       where
         each-leader : (x : ℕ) → onCycle n f x ≡ true
             → l * cond (eqb l (length (cycleFrom n f x))) 1 0 ≡ total (λ y. cond (eqb l (length (cycleFrom n f y))) 1 0) (cycleFrom n f x)

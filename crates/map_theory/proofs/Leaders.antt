@@ -124,6 +124,12 @@ module _ (n : ℕ) (f : ℕ → ℕ) where
       let s = of-cycle y (cycle-onCycle x e m) k in
       in-moved (iterate-add f (r .0) (s .0) x ∙ ap (iterate f (s .0)) (sym (r .2)) ∙ sym (s .2)) (in-cycle (r .0 + s .0) x e)
 
+  -- a cycle has the same points from each of them on
+  pub cycle-perm : (x : ℕ) {y : ℕ} → onCycle n f x ≡ true → y ∈ cycleFrom n f x → Perm (cycleFrom n f y) (cycleFrom n f x)
+  cycle-perm x {y} e m =
+      let o = cycle-onCycle x e m in
+      same-members-perm (cycle-nodup y o) (cycle-nodup x e) (λ z k. cycle-trans x e m k) (λ z k. cycle-trans y o (cycle-sym x e m) k)
+
   -- a leader is on a cycle and no point of its cycle is less
   pub leads-onCycle : (x : ℕ) → leadsCycle n f x ≡ true → onCycle n f x ≡ true
   unfolding leadsCycle

@@ -6,6 +6,7 @@ pub mod Ordered
 pub mod Placed
 pub mod Shown
 pub mod MapOf
+pub mod PointsOnce
 pub mod Isomorphisms
 pub mod Renamed
 pub mod Labelled

@@ -2,23 +2,22 @@
 -- points; the greatest is the longest cycle; and the rows can be read off the code, in which a cycle is a component and its length the number of trees.
 use mathlib.Core.Path.{_≡_, refl, ap, ap₂, sym, _∙_}
 use mathlib.Core.List.{List, [], _∷_, map, map-map, map-id, head-eq-of-cons-eq, tail-eq-of-cons-eq}
-use mathlib.Core.Bool.{Bool, cond, not}
+use mathlib.Core.Bool.{Bool, not}
 use Prim.Native.Nat.{ℕ, _≤_, _<_, compare}
 use native.Mathlib.Omega.{arith}
 use lib.Dec.{eqb}
 use borrow.Author.Tests.{eqb-true, eqb-false, ne-eqb}
 use lib.ListN.{length, length-map}
-use Rattle.lists.specs.Order.{same}
 use Rattle.lists.specs.Select.{range, times}
 use Rattle.lists.proofs.Tests.{_∈_, by-test, not-of-true}
 use Rattle.lists.proofs.Comparison.{compare-lawful, lt-not-eq}
-use Rattle.lists.proofs.Permute.{perm-length, total-map, total-same}
+use Rattle.lists.proofs.Permute.{Perm, perm-path, perm-trans, perm-length, perm-map}
 use Rattle.lists.proofs.Members.{NoDup, in-range, in-keep, of-keep}
 use Rattle.lists.proofs.Places.{times-out, times-in, in-of-times, times-nodup}
 use Rattle.lists.proofs.Pigeon.{inside-rest}
 use Rattle.lists.proofs.Rising.{Rising, rising-keep, rising-range, rising-nodup, rising-unique}
-use Rattle.lists.proofs.Sorting.{sort-total}
-use Rattle.lists.proofs.Gathering.{map-same, keep-same}
+use Rattle.lists.proofs.Sorting.{sort-perm}
+use Rattle.lists.proofs.Gathering.{map-same, keep-same, perm-times}
 use Rattle.patterns.specs.System.{compareGenerated}
 use Rattle.patterns.specs.Table.{cycleFrom, treeAt, componentAt, leadsCycle, leaders, systemOf}
 use Rattle.patterns.specs.Census.{greatest, Row, cycleLengths, cyclesOf, longestCycle, occurring, censusRows}
@@ -134,20 +133,23 @@ module _ (n : ℕ) (f : ℕ → ℕ) where
   unfolding censusRows
   census-fits inside h = omega (arith, length-map (occurring n f) row, occurring-few inside h)
 
+  -- a component has a tree for each point of its cycle
+  trees-along : (x : ℕ) → length (componentAt n f x) ≡ length (cycleFrom n f x)
+  unfolding componentAt
+  trees-along x = perm-length (rotated-perm (leastRotation-rotated (map (treeAt n f) (cycleFrom n f x)))) ∙ length-map (cycleFrom n f x) (treeAt n f)
+
+  -- so the numbers of trees in the code are the cycle lengths
+  pub trees-lengths : Perm (map length (systemOf n f)) (cycleLengths n f)
+  unfolding systemOf cycleLengths
+  trees-lengths =
+      perm-trans (perm-map length (sort-perm compareGenerated (map (componentAt n f) (leaders n f))))
+      (perm-path (map-map length (componentAt n f) (leaders n f)
+      ∙ map-same (λ x. length (componentAt n f x)) (λ x. length (cycleFrom n f x)) (leaders n f) (λ x m. trees-along x)))
+
   -- the cycles of length l are the components of l trees in the code
   pub cyclesOf-system : (l : ℕ) → cyclesOf n f l ≡ times l (map length (systemOf n f))
-  unfolding cyclesOf cycleLengths systemOf componentAt
-  cyclesOf-system l =
-      let one : ℕ → ℕ = λ y. cond (same compare l y) 1 0 in
-      total-map one (λ x. length (cycleFrom n f x)) (leaders n f)
-      ∙ total-same (λ x. one (length (cycleFrom n f x))) (λ x. one (length (componentAt n f x))) (leaders n f) (λ x m. ap one (sym (trees-along x)))
-      ∙ sym (total-map (λ c. one (length c)) (componentAt n f) (leaders n f))
-      ∙ sym (sort-total compareGenerated (λ c. one (length c)) (map (componentAt n f) (leaders n f)))
-      ∙ sym (total-map one length (systemOf n f))
-    where
-      trees-along : (x : ℕ) → length (componentAt n f x) ≡ length (cycleFrom n f x)
-      trees-along x =
-          perm-length (rotated-perm (leastRotation-rotated (map (treeAt n f) (cycleFrom n f x)))) ∙ length-map (cycleFrom n f x) (treeAt n f)
+  unfolding cyclesOf
+  cyclesOf-system l = sym (perm-times trees-lengths l)
 
 -- maps of equally many points whose code is the same have the same rows
 pub same-rows : (n : ℕ) (f g : ℕ → ℕ) → systemOf n f ≡ systemOf n g → censusRows n f ≡ censusRows n g

@@ -8,9 +8,12 @@ use Rattle.lists.proofs.Permute.{Perm, perm-trans, perm-path, perm-map}
 use Rattle.lists.proofs.Members.{in-head, in-append-left, in-append-right, in-moved, of-map, in-gather}
 use Rattle.patterns.specs.Tree.{merge}
 use Rattle.patterns.specs.Component.{turn}
+use Rattle.patterns.specs.Table.{image}
+use Rattle.patterns.specs.Isomorphism.{Isomorphism}
 use Rattle.lists.proofs.Gathering.{map-same, map-gather, gather-map, gather-same, below-of}
 use Rattle.map_theory.proofs.Pictures.{Plant, tip, join, shape, root, labels, Arrows, arrows-tip, arrows-join, allLabels, shapes, Picture}
 use Rattle.map_theory.proofs.Cycles.{map-turn}
+use Rattle.map_theory.proofs.Isomorphisms.{table-read, isomorphism-perm}
 
 -- every point replaced by its new name
 abbrev pub renamed : (ℕ → ℕ) → Plant → Plant
@@ -91,3 +94,9 @@ module _ (r : ℕ → ℕ) where
             ∙ ap turn (sym (renamed-roots d)) in
             rw (s .2) e;
       }
+
+-- by an isomorphism of tables
+pub isomorphic-picture : (n : ℕ) (f g r : List ℕ) (pic : List (List Plant)) → Picture n (image f) pic → Isomorphism n f g r
+    → Picture n (image g) (map (map (renamed (image r))) pic)
+isomorphic-picture n f g r pic p i =
+    renamed-picture (image r) n (image f) (image g) pic p (perm-trans (perm-path (table-read n r (i .points))) (isomorphism-perm i)) (i .follows)

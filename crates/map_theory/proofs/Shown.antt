@@ -33,19 +33,14 @@ pub length-allLabels : (pic : List (List Plant)) → length (allLabels pic) ≡ 
 length-allLabels [] = refl
 length-allLabels (c ∷ pic) = omega (arith, length-append (gather labels c) (allLabels pic), length-labels c, length-allLabels pic)
 
+-- a tree has no more points than all of them
+pub tree-fits : {pic : List (List Plant)} {c : List Plant} {t : Plant} → c ∈ pic → t ∈ c → size (shape t) ≤ weight (shapes pic)
+tree-fits m k = omega (arith, member-total size (in-map shape k), member-total points (in-map (map shape) m))
+
 module _ (n : ℕ) (f : ℕ → ℕ) (pic : List (List Plant)) (p : Picture n f pic) where
   -- the shapes have n points together
   pub picture-weight : weight (shapes pic) ≡ n
   picture-weight = sym (length-allLabels pic) ∙ perm-length (p .points) ∙ range-length 0 n
-
-  tree-fits : {c : List Plant} {t : Plant} → c ∈ pic → t ∈ c → size (shape t) ≤ n
-  tree-fits {c} {t} m k =
-      omega (
-        arith,
-        member-total size (in-map shape k),
-        member-total points (in-map (map shape) m),
-        picture-weight,
-      )
 
   module _ (valid : each validComponent (shapes pic) ≡ true) where
     shape-valid : {c : List Plant} → c ∈ pic → validComponent (map shape c) ≡ true
@@ -63,7 +58,7 @@ module _ (n : ℕ) (f : ℕ → ℕ) (pic : List (List Plant)) (p : Picture n f 
     -- the tree at a root is the shape of its plant
     pub tree-shown : {c : List Plant} {t : Plant} → c ∈ pic → t ∈ c → treeAt n f (root t) ≡ shape t
     unfolding treeAt
-    tree-shown {c} {t} m k = placed-tree n t (omega (arith, tree-fits m k)) (top-placed m k)
+    tree-shown {c} {t} m k = placed-tree n t (omega (arith, tree-fits m k, picture-weight)) (top-placed m k)
 
     -- the component at any of its roots is the shape of the component
     pub component-shown : {c : List Plant} {x : ℕ} → c ∈ pic → x ∈ map root c → componentAt n f x ≡ map shape c
@@ -124,8 +119,8 @@ module _ (n : ℕ) (f : ℕ → ℕ) (pic : List (List Plant)) (p : Picture n f 
     tree-equation-shown x h =
         let r = of-gather (gather labels) pic (of-below (p .points) h) in
         let s = of-gather labels (r .0) (r .2) in
-        let q = placed-at n (s .0) (tree-fits (r .1) (s .1)) (top-placed (r .1) (s .1)) (s .2) in
-        let b : size (shape (q .0)) ≤ n = omega (arith, q .2, tree-fits (r .1) (s .1)) in
+        let q = placed-at n (s .0) (omega (arith, tree-fits (r .1) (s .1), picture-weight)) (top-placed (r .1) (s .1)) (s .2) in
+        let b : size (shape (q .0)) ≤ n = omega (arith, q .2, tree-fits (r .1) (s .1), picture-weight) in
         let e : treeTo n f n x ≡ shape (q .0) = ap (treeTo n f n) (q .3) ∙ placed-tree n (q .0) (omega arith) (q .1) in
         let e′ : treeTo n f (suc n) x ≡ shape (q .0) = ap (treeTo n f (suc n)) (q .3) ∙ placed-tree (suc n) (q .0) (omega arith) (q .1) in
         e ∙ sym e′

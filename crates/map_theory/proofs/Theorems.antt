@@ -5,8 +5,6 @@ use mathlib.Core.Bool.{true}
 use Prim.Native.Nat.{ℕ, _<_}
 use lib.ListN.{length}
 use Rattle.lists.specs.Sort.{sort}
-use Rattle.lists.specs.Select.{range}
-use Rattle.lists.proofs.Permute.{Perm, perm-trans, perm-path}
 use Rattle.patterns.specs.Tree.{graft, compareTree}
 use Rattle.patterns.specs.System.{System, weight, canonical}
 use Rattle.patterns.specs.Table.{image, isTable, hanging, treeAt, systemOf, systemOfTable}
@@ -16,8 +14,8 @@ use Rattle.map_theory.proofs.Pictures.{Plant, allLabels, shapes, Pictur
 use Rattle.map_theory.proofs.Ordered.{canonical-valid}
 use Rattle.map_theory.proofs.Shown.{picture-weight, tree-equation-shown, system-shown}
 use Rattle.map_theory.proofs.MapOf.{numberedSystem, numberedSystem-shapes, length-mapOf, mapOf-table, mapOf-picture}
-use Rattle.map_theory.proofs.Isomorphisms.{table-below, table-read, isomorphism-perm, isomorphism-compose, inverse, isomorphism-inverse}
-use Rattle.map_theory.proofs.Renamed.{renamed, renamed-shapes, renamed-picture}
+use Rattle.map_theory.proofs.Isomorphisms.{table-below, isomorphism-compose, inverse, isomorphism-inverse}
+use Rattle.map_theory.proofs.Renamed.{renamed, renamed-shapes, isomorphic-picture}
 use Rattle.map_theory.proofs.Labelled.{picture-isomorphism}
 use Rattle.map_theory.proofs.Exists.{picture-exists}
 
@@ -35,10 +33,9 @@ renamed-system : (n : ℕ) (f g r : List ℕ) (pic : List (List Plant)) → leng
     → Isomorphism n f g r → systemOfTable g ≡ shapes pic
 unfolding systemOfTable
 renamed-system n f g r pic l p e i =
-    let all : Perm (map (image r) (range 0 n)) (range 0 n) = perm-trans (perm-path (table-read n r (i .points))) (isomorphism-perm i) in
     let q = renamed-shapes (image r) pic in
     ap (λ k. systemOf k (image g)) l
-    ∙ system-shown n (image g) (map (map (renamed (image r))) pic) (renamed-picture (image r) n (image f) (image g) pic p all (i .follows)) (ap canonical q ∙ e)
+    ∙ system-shown n (image g) (map (map (renamed (image r))) pic) (isomorphic-picture n f g r pic p i) (ap canonical q ∙ e)
     ∙ q
 
 -- the one canonical system whose map is isomorphic to f is the system of f

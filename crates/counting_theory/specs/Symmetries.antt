@@ -1,0 +1,53 @@
+-- How many isomorphisms a tree, a component and a system have to themselves, part by part; and how many tables have a system, of which document 02, paper 7, speaks.
+-- No promise cites these definitions.
+use mathlib.Core.Bool.{cond}
+use mathlib.Core.List.{List, [], _∷_}
+use Prim.Native.Nat.{ℕ, zero, suc, _*_, Ordering}
+use lib.ListN.{length}
+use Rattle.lists.specs.Order.{same}
+use Rattle.lists.specs.Select.{keep, total}
+use Rattle.patterns.specs.Tree.{Tree, point, merge, branches, compareTree}
+use Rattle.patterns.specs.Component.{Component, compareComponent, rotations}
+use Rattle.patterns.specs.System.{System, compareSystem}
+use Rattle.patterns.specs.Table.{systemOfTable}
+use Rattle.patterns.specs.Isomorphism.{tables}
+
+-- 1 · 2 · .. · n
+abbrev pub factorial : ℕ → ℕ
+factorial zero = 1
+factorial (suc n) = suc n * factorial n
+
+-- the product of what g gives
+abbrev pub product : {A : Type 0} → (A → ℕ) → List A → ℕ
+product g [] = 1
+product g (x ∷ l) = g x * product g l
+
+-- how many entries of l equal x
+abbrev pub copies : {A : Type 0} → (A → A → Ordering) → A → List A → ℕ
+copies c x l = total (λ y. cond (same c x y) 1 0) l
+
+-- the last branch u can take the place of any branch that equals it
+unfoldable pub treeSymmetries : Tree → ℕ
+unfolding compareTree
+treeSymmetries point = 1
+treeSymmetries (merge t u) = (suc (copies compareTree u (branches t)) * treeSymmetries u) * treeSymmetries t
+
+-- how many rotations of a component equal it [document 02, paper 6: turns]
+unfoldable pub rotationSymmetry : Component → ℕ
+unfolding compareComponent
+rotationSymmetry c = length (keep (same compareComponent c) (rotations c))
+
+unfoldable pub componentSymmetries : Component → ℕ
+unfolding rotationSymmetry treeSymmetries
+componentSymmetries c = rotationSymmetry c * product treeSymmetries c
+
+-- the first component can take the place of any that equals it
+unfoldable pub symmetries : System → ℕ
+unfolding componentSymmetries compareComponent
+symmetries [] = 1
+symmetries (c ∷ S) = (suc (copies compareComponent c S) * componentSymmetries c) * symmetries S
+
+-- how many tables of n points have the system S: a count, and no formula over symmetries
+unfoldable pub tablesWith : ℕ → System → ℕ
+unfolding systemOfTable compareSystem
+tablesWith n S = length (keep (λ f. same compareSystem (systemOfTable f) S) (tables n n))

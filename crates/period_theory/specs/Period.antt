@@ -1,0 +1,17 @@
+-- The period of a map [document 02, paper 8: round length]. No promise cites these definitions.
+use mathlib.Core.Path.{_≡_}
+use mathlib.Core.Bool.{true}
+use Prim.Native.Nat.{ℕ, _≤_, _<_}
+use Rattle.patterns.specs.Table.{onCycle}
+use Rattle.map_theory.specs.Iteration.{iterate}
+
+module _ (n : ℕ) (f : ℕ → ℕ) where
+  -- p steps bring every point that is on a cycle back
+  abbrev pub BringsBack : ℕ → Type 0
+  BringsBack p = (x : ℕ) → x < n → onCycle n f x ≡ true → iterate f p x ≡ x
+
+  -- p is the least number of steps, at least one, that does
+  pub record LeastPeriod (p : ℕ) : Type 0 where
+    pub positive : 1 ≤ p
+    pub brings-back : BringsBack p
+    pub least : (q : ℕ) → 1 ≤ q → BringsBack q → p ≤ q
