@@ -9,10 +9,10 @@ use lib.ListN.{length, length-map}
 use Rattle.lists.specs.Order.{same}
 use Rattle.lists.specs.Select.{total, range, place}
 use Rattle.lists.proofs.Tests.{_∈_}
-use Rattle.lists.proofs.Members.{Decides, lawful-decides, compare-decides, of-map, of-range, nodup-range}
-use Rattle.lists.proofs.Permute.{Perm, perm-sym, perm-length, total-one, total-same, total-swap, length-keep}
-use Rattle.lists.proofs.Gathering.{map-same, perm-nodup, perm-once, below-of, of-below, getD-map}
-use Rattle.lists.proofs.Places.{in-index, place-index, place-at, range-length, getD-range}
+use Rattle.lists.proofs.Members.{Decides, lawful-decides, of-map, of-range, nodup-range}
+use Rattle.lists.proofs.Permute.{Perm, total-one, total-same, total-swap, length-keep}
+use Rattle.lists.proofs.Gathering.{map-same}
+use Rattle.lists.proofs.Places.{range-length}
 use Rattle.patterns.specs.System.{System, weight, canonical, codes, compareSystem}
 use Rattle.patterns.specs.Table.{image, isTable, systemOfTable}
 use Rattle.patterns.specs.MapOf.{mapOf}
@@ -20,7 +20,7 @@ use Rattle.patterns.specs.Isomorphism.{Isomorphism, tables}
 use Rattle.patterns.proofs.Trees.{compareSystem-lawful}
 use Rattle.system_theory.proofs.Codes.{codes-different, codes-complete}
 use Rattle.map_theory.proofs.MapOf.{length-mapOf, mapOf-table}
-use Rattle.map_theory.proofs.PointsOnce.{table-member, table-of-members}
+use Rattle.map_theory.proofs.PointsOnce.{table-member, table-of-members, image-of-map, perm-below, perm-place, place-image, isomorphism-of-perm}
 use Rattle.map_theory.proofs.Isomorphisms.{table-below, table-read, isomorphism-perm}
 use Rattle.map_theory.proofs.Theorems.{table-canonical, table-weight, canonical-system-unique}
 use Rattle.counting_theory.specs.Symmetries.{factorial, symmetries, tablesWith}
@@ -91,30 +91,11 @@ renamedTable : ℕ → List ℕ → List ℕ → List ℕ
 renamedTable n m r = map (renamedImage m r) (range 0 n)
 
 module _ (n : ℕ) (m : List ℕ) (below : (x : ℕ) → x < n → image m x < n) (r : List ℕ) (p : Perm r (range 0 n)) where
-  points-r : length r ≡ n
-  points-r = perm-length p ∙ range-length 0 n
-
-  image-below : (x : ℕ) → x < n → image r x < n
-  image-below x h = below-of p (in-index r x 0 (omega (arith, points-r)))
-
-  -- a point stands in r at a place
-  place-of : (y : ℕ) → y < n → (place compare y r < n) × (image r (place compare y r) ≡ y)
-  place-of y h = let q = place-index compare-decides 0 (of-below p h) in (omega (arith, q .0, points-r), q .1)
-
-  renamed-image : (y : ℕ) → y < n → image (renamedTable n m r) y ≡ renamedImage m r y
-  unfolding renamedTable
-  renamed-image y h =
-      getD-map (renamedImage m r) (range 0 n) y 0 0 (omega (arith, range-length 0 n)) ∙ ap (renamedImage m r) (getD-range 0 n y 0 h ∙ omega arith)
-
   renamed-isomorphism : Isomorphism n m (renamedTable n m r) r
-  unfolding renamedImage
-  renamed-isomorphism = record {
-    points = points-r;
-    once = perm-once n r p;
-    follows = λ x h.
-        ap (λ y. image r (image m y)) (sym (place-at compare-decides 0 x (perm-nodup (perm-sym p) (nodup-range 0 n)) (omega (arith, points-r))))
-        ∙ sym (renamed-image (image r x) (image-below x h));
-  }
+  unfolding renamedTable renamedImage
+  renamed-isomorphism =
+      isomorphism-of-perm p (λ x h.
+      ap (λ y. image r (image m y)) (sym (place-image p x h)) ∙ sym (image-of-map n (renamedImage m r) (image r x) (perm-below p x h)))
 
   renamed-table : PointTable n (renamedTable n m r)
   unfolding renamedTable renamedImage
@@ -123,7 +104,7 @@ module _ (n : ℕ) (m : List ℕ) (below : (x : ℕ) → x < n → image m x < n
       (λ y k.
       let q = of-map (renamedImage m r) (range 0 n) k in
       let b = of-range 0 n (q .1) in
-      rw (q .2) (image-below (image m (place compare (q .0) r)) (below (place compare (q .0) r) ((place-of (q .0) (omega arith)) .0))))
+      rw (q .2) (perm-below p (image m (place compare (q .0) r)) (below (place compare (q .0) r) ((perm-place p (q .0) (omega arith)) .0))))
 
   renamed-only : (f : List ℕ) → Named n m (f, r) → f ≡ renamedTable n m r
   unfolding renamedTable renamedImage
@@ -132,7 +113,7 @@ module _ (n : ℕ) (m : List ℕ) (below : (x : ℕ) → x < n → image m x < n
       ∙ map-same (image f) (renamedImage m r) (range 0 n)
       (λ y k.
       let b = of-range 0 n k in
-      let q = place-of y (omega arith) in
+      let q = perm-place p y (omega arith) in
       ap (image f) (sym (q .1)) ∙ sym (z .isomorphism .follows (place compare y r) (q .0)))
 
   -- r is an isomorphism to just one table

@@ -4,23 +4,20 @@ use mathlib.Core.List.{List, map, map-map, map-id}
 use mathlib.Core.Bool.{true}
 use Prim.Native.Nat.{ℕ, _<_, compare}
 use native.Mathlib.Omega.{arith}
-use lib.Dec.{ltb}
-use borrow.Author.Tests.{ltb-true}
 use lib.ListN.{length, length-map}
 use Rattle.lists.specs.Select.{range, place}
-use Rattle.lists.proofs.Tests.{each-member}
 use Rattle.lists.proofs.Permute.{Perm, perm-sym, perm-trans, perm-path, perm-map}
-use Rattle.lists.proofs.Members.{NoDup, compare-decides, of-range, nodup-range}
-use Rattle.lists.proofs.Places.{in-index, index-of, range-length, getD-range, place-index, place-at}
+use Rattle.lists.proofs.Members.{of-range}
+use Rattle.lists.proofs.Places.{in-index, index-of}
 use Rattle.patterns.specs.Table.{image, isTable}
 use Rattle.patterns.specs.Isomorphism.{Isomorphism}
-use Rattle.lists.proofs.Gathering.{map-same, perm-nodup, once-perm, perm-once, below-of, of-below, getD-map}
+use Rattle.lists.proofs.Gathering.{map-same, once-perm, perm-once, of-below, getD-map}
+use Rattle.map_theory.proofs.PointsOnce.{table-member, perm-below, perm-place, place-image, image-of-map, isomorphism-of-perm}
 use Rattle.map_theory.proofs.MapOf.{reads-self}
 
 -- the images of a table are points
 pub table-below : (n : ℕ) (f : List ℕ) → length f ≡ n → isTable f ≡ true → (x : ℕ) → x < n → image f x < n
-table-below n f l t x h =
-    omega (arith, ltb-true (image f x) (length f) (each-member (λ y. ltb y (length f)) t (in-index f x 0 (omega arith))))
+table-below n f l t x h = omega (arith, table-member f t (in-index f x 0 (omega arith)))
 
 -- a table of n entries, read from 0 to n − 1, is the table
 pub table-read : (n : ℕ) (r : List ℕ) → length r ≡ n → map (image r) (range 0 n) ≡ r
@@ -31,7 +28,7 @@ pub isomorphism-perm : {n : ℕ} {f g r : List ℕ} → Isomorphism n f g r → 
 isomorphism-perm {n} {f} {g} {r} i = once-perm n r (i .points) (i .once)
 
 pub isomorphism-below : {n : ℕ} {f g r : List ℕ} → Isomorphism n f g r → (x : ℕ) → x < n → image r x < n
-isomorphism-below {n} {f} {g} {r} i x h = below-of (isomorphism-perm i) (in-index r x 0 (omega (arith, i .points)))
+isomorphism-below i = perm-below (isomorphism-perm i)
 
 -- first r, then s
 pub isomorphism-compose : {n : ℕ} {f g h r s : List ℕ} → ((x : ℕ) → x < n → image f x < n) → Isomorphism n f g r → Isomorphism n g h s
@@ -61,29 +58,19 @@ pub isomorphism-inverse : {n : ℕ} {f g r : List ℕ} → ((x : ℕ) → x < n 
 unfolding inverse
 isomorphism-inverse {n} {f} {g} {r} b d i =
     let p = isomorphism-perm i in
-    let u : NoDup r = perm-nodup (perm-sym p) (nodup-range 0 n) in
     let to : ℕ → ℕ = λ x. place compare x r in
-    let back : (x : ℕ) → x < n → image (inverse n r) x ≡ to x =
-    λ x k. getD-map to (range 0 n) x 0 0 (omega (arith, range-length 0 n)) ∙ ap to (getD-range 0 n x 0 k ∙ omega arith) in
-    let there : (x : ℕ) → x < n → (to x < n) × (image r (to x) ≡ x) =
-    λ x k. let q = place-index compare-decides 0 (of-below p k) in (omega (arith, q .0, i .points), q .1) in
-    let here : (x : ℕ) → x < n → to (image r x) ≡ x =
-    λ x k. place-at compare-decides 0 x u (omega (arith, i .points)) in
+    let here : (x : ℕ) → x < n → to (image r x) ≡ x = place-image p in
     let all : Perm (map to (range 0 n)) (range 0 n) =
     perm-trans (perm-map to (perm-sym p))
     (perm-path (ap (map to) (sym (table-read n r (i .points))) ∙ map-map to (image r) (range 0 n)
     ∙ map-same (λ x. to (image r x)) (λ x. x) (range 0 n) (λ x m. let q = of-range 0 n m in here x (omega arith))
     ∙ map-id (range 0 n))) in
-    record {
-      points = length-map (range 0 n) to ∙ range-length 0 n;
-      once = perm-once n (map to (range 0 n)) all;
-      follows = λ x k.
-          let t = there x k in
-          back (image g x) (d x k)
-          ∙ ap to (ap (image g) (sym (t .1)) ∙ sym (i .follows (to x) (t .0)))
-          ∙ here (image f (to x)) (b (to x) (t .0))
-          ∙ ap (image f) (sym (back x k));
-    }
+    isomorphism-of-perm all (λ x k.
+    let t = perm-place p x k in
+    image-of-map n to (image g x) (d x k)
+    ∙ ap to (ap (image g) (sym (t .1)) ∙ sym (i .follows (to x) (t .0)))
+    ∙ here (image f (to x)) (b (to x) (t .0))
+    ∙ ap (image f) (sym (image-of-map n to x k)))
 
 -- Two maps f and g that are isomorphic to one map: a table that sends each point of f to the point of g with the same origin is an isomorphism.
 pub isomorphism-through : {n : ℕ} {m f g a b r : List ℕ} → ((x : ℕ) → x < n → image m x < n) → Isomorphism n m f a → Isomorphism n m g b → length r ≡ n

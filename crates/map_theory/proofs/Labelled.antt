@@ -6,17 +6,16 @@ use native.Mathlib.Omega.{arith}
 use lib.ListN.{length, getD}
 use Rattle.lists.specs.Select.{gather}
 use Rattle.lists.proofs.Tests.{_∈_}
-use Rattle.lists.proofs.Permute.{perm-length}
 use Rattle.lists.proofs.Members.{in-head, in-tail}
-use Rattle.lists.proofs.Places.{range-length}
 use Rattle.patterns.specs.Tree.{size}
 use Rattle.patterns.specs.Component.{points, turn}
 use Rattle.patterns.specs.MapOf.{innerImages, cycleImages, imagesFrom, mapOf}
 use Rattle.patterns.specs.Table.{image}
 use Rattle.patterns.specs.Isomorphism.{Isomorphism}
-use Rattle.lists.proofs.Gathering.{perm-once, getD-map}
+use Rattle.lists.proofs.Gathering.{getD-map}
 use Rattle.map_theory.proofs.Pictures.{Plant, shape, root, inner, labels, Arrows, arrows-tip, arrows-join, allLabels, shapes, Picture}
 use Rattle.map_theory.proofs.Plants.{length-inner}
+use Rattle.map_theory.proofs.PointsOnce.{perm-points, isomorphism-of-perm}
 use Rattle.map_theory.proofs.Shown.{length-labels, picture-weight}
 use Rattle.map_theory.proofs.MapOf.{Reads, reads-self, reads-head, reads-left, reads-right, length-mapOf}
 
@@ -78,13 +77,9 @@ pub picture-isomorphism : (n : ℕ) (f : List ℕ) (pic : List (List Plant)) →
 picture-isomorphism n f pic p =
     let r = allLabels pic in
     let m = mapOf (shapes pic) in
-    let l : length r ≡ n = perm-length (p .points) ∙ range-length 0 n in
+    let l : length r ≡ n = perm-points (p .points) in
     let k : length m ≡ n = length-mapOf (shapes pic) ∙ picture-weight n (image f) pic p in
-    record {
-      points = l;
-      once = perm-once n r (p .points);
-      follows = λ x h.
-          sym (getD-map (image r) m x 0 0 (omega arith))
-          ∙ ap (λ s. getD s x 0) (labels-follow n (image f) pic p)
-          ∙ getD-map (image f) r x 0 0 (omega arith);
-    }
+    isomorphism-of-perm (p .points) (λ x h.
+    sym (getD-map (image r) m x 0 0 (omega arith))
+    ∙ ap (λ s. getD s x 0) (labels-follow n (image f) pic p)
+    ∙ getD-map (image f) r x 0 0 (omega arith))
