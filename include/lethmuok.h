@@ -103,6 +103,10 @@ int64_t lethmuok_longest_cycle(const uint8_t *table, size_t n);
 int64_t lethmuok_component_start(const uint8_t *code, size_t code_len, size_t position);
 int64_t lethmuok_component_end(const uint8_t *code, size_t code_len, size_t position);
 
+/* How many of its rotations equal the component at a position. A rotation moves the first trees along the cycle to the end; of k trees there are k rotations, the
+ * component itself being one, so the answer is from 1 to k: 3 for the component 3 1 1 1, and 1 for 2 1 2 1. The refusals are those of lethmuok_component_start. */
+int64_t lethmuok_component_turns(const uint8_t *code, size_t code_len, size_t position);
+
 #ifdef __cplusplus
 }
 #endif

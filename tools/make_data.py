@@ -112,8 +112,8 @@ def census(table, room=19):
 
 def component(code, position):
     kind, result = model.component(code, position)
-    value, part = result if kind == "part" else (result, [])
-    return stretch(code) + [position, KINDS[kind], value] + stretch(part)
+    value, turns, part = result if kind == "part" else (result, 0, [])
+    return stretch(code) + [position, KINDS[kind], value, turns] + stretch(part)
 
 
 def page(code, wanted, room=WIDEST):
@@ -586,17 +586,72 @@ def codes_of_maps():
     return lines
 
 
-def components():
-    """Each component of codes of up to 4 points and of 200 points, the positions after the last, and codes with a fault of their own."""
+# ---- the component reader
+
+
+def every_component(code):
+    """Each component of a code, and the position after the last. The turns of each have to be the greatest number of equal pieces of its list of trees."""
+    system = model.accepted(code)
+    for c in system:
+        pieces = [d for d in range(1, len(c) + 1) if c[: len(c) // d] * d == c]
+        assert model.turns(c) == max(pieces), c
+    return [component(code, i) for i in range(len(system) + 1)]
+
+
+def reader_examples():
+    """Document 01 on a code of three components, with the answers that its words give, and paper 6 of document 02 with its own."""
+    def given(line, kind, value, turns, part=()):
+        assert line[-len(stretch(part)) - 3 :] == [KINDS[kind], value, turns] + stretch(part), line
+        return line
+
     code = [8, 3, 2, 1, 1, 1, 3, 2, 1, 2, 1, 2, 1]
-    parts = [[2, 1, 1], [1, 3, 2, 1], [2, 1, 2, 1]]
-    lines = [component(code, i) for i in range(4)]
-    assert [line[-len(part) :] for line, part in zip(lines, parts)] == parts and lines[3][-4:] == [3, 9, 0, 0]
-    lines.append(component([0, 0], 0))
-    assert lines[-1][-4:] == [3, 9, 0, 0]
+    parts = [(2, 2, [2, 1, 1]), (5, 1, [1, 3, 2, 1]), (9, 1, [2, 1, 2, 1])]
+    lines = [given(component(code, i), "part", *part) for i, part in enumerate(parts)]
+    lines += [given(component(code, 3), "refused", 9, 0), given(component([0, 0], 0), "refused", 9, 0)]
+    lines += [given(component([3, 1, 3, 1, 1, 1], 0), "part", 2, 3, [3, 1, 1, 1]), given(component([3, 1, 2, 1, 2, 1], 0), "part", 2, 1, [2, 1, 2, 1])]
+    return lines
+
+
+def code_of_lists(*lists):
+    """The code of the components with these trees along their cycles, from any tree on and in any order."""
+    return model.code_of_map(joined(*[of_trees(*trees) for trees in lists]), WIDE)[1]
+
+
+def small_turns():
+    """Components of 5 to 8 points with more than one turn; periods that are cut off, that have one tree changed, and that are made of periods; trees of equal sizes or in
+    equal numbers without a period; such components beside each other, so that each has a number of its own."""
+    one, two, three, path = [1], [2, 1], [3, 1, 1], [3, 2, 1]
+    lists = [list(c) for n in range(5, 9) for c in plain_listing.generation(n) if model.turns(c) > 1]
+    lists += [[one, two] * 3, [one, one, two] * 2, [three, path] * 2, [one, one, one, two] * 3]
+    # a b a, and other powers of which the end is missing
+    lists += [[one, two, one], [one, two] * 2 + [one], [one, one, two] * 2 + [one, two], [one, one, two] * 3 + [one], [two, three] * 2 + [two]]
+    lists += [[one, two] * 3 + [one, three], [one, two] * 2 + [one, path, one, two], [two] * 4 + [path], [one] * 5 + [two], [one, one, two] * 2 + [one, one, three]]
+    lists += [([one, two] * 2 + [three]) * 2, ([one] * 3 + [two] + [one] * 3 + [path]) * 2, ([one, two] * 2 + [one, three]) * 2]
+    lists += [[three, path], [three, three, path], [path, path, three, path], [one, one, two, two], [one, one, two, two] * 2, [one, two, two, one, three, three]]
+    systems = [[trees] for trees in lists]
+    systems += [[[one], [one] * 3, [one, two], [two] * 2], [[one] * 6, [two] * 3, [one, two] * 2, [three] * 2, [one] * 4 + [two]], [[two] * 2, [one, three], [one] * 4]]
+    systems += [[[one, two] * 2] * 3, [[one] * k for k in range(1, 8)], [[one] * 7, [one] * 7, [one, one, two, one, three], [two] * 4]]
+    return [line for system in systems for line in every_component(code_of_lists(*system))]
+
+
+def long_turns():
+    """Components of up to 200 points: cycles, periods of one tree and of more, a tree changed, the end missing; four different ones of 50 points beside each other."""
+    one, two, three, path = [1], [2, 1], [3, 1, 1], [3, 2, 1]
+    systems = [[[one] * 200], [[one] * 128], [[two] * 100], [[one, two] * 66], [[one, one, two] * 50], [([one] * 98 + [two]) * 2], [[one] * 98 + [two]] * 2]
+    systems += [[[one] * 198 + [two]], [[two] * 98 + [path]], [[one, one, two] * 49 + [one, three]], [[one, two] * 66 + [one]]]
+    systems += [[([one] * 24 + [two]) * 7 + [one] * 18], [[one] * 60 + [two] * 60]]
+    systems += [[[one] * 50, [two] * 25, [five] * 10, [one] * 48 + [two]] for five in ([5, 1, 1, 1, 1], [5, 4, 3, 2, 1])]
+    systems += [[([one] * 8 + [two]) * 5, [one, [4, 1, 2, 1]] * 10, [one, two, path] * 8, [one, two] * 16]]
+    return [line for system in systems for line in every_component(code_of_lists(*system))]
+
+
+def components():
+    """Each component of codes of up to 4 points and of 200 points, the positions after the last, codes with a fault of their own, and turns of periodic cycles."""
+    code = [8, 3, 2, 1, 1, 1, 3, 2, 1, 2, 1, 2, 1]
+    lines = reader_examples()
     for n in range(5):
         for system in plain_listing.systems(n):
-            lines += [component(plain_listing.numbers(n, system), i) for i in range(len(system) + 1)]
+            lines += every_component(plain_listing.numbers(n, system))
     faults = [[], [128], [129, 0], [128, 128], [201, 1], [0, 1], [1, 0], [200, 1], [1, 1, 1, 1, 9], [3, 1, 2, 2, 1, 1], code[:-1], code + [1], code + [128]]
     lines += [component(fault, i) for fault in faults for i in (0, 1, 99999)]
     kept = ("200 fixed points", "a cycle of 200", "a path into a fixed point", "two components of 100 that differ at a leaf", "four random components of 50", "cycles of 1 to 19 and 10 leaves")
@@ -605,7 +660,10 @@ def components():
             written = model.code_of_map(table, WIDE)[1]
             m = len(model.accepted(written))
             lines += [component(written, i) for i in sorted({0, 1, 2, m // 2, m - 1, m, m + 1, 200, 99999})]
-    return lines
+    # the rotations that do not equal a component are refused
+    lines += [component(model.written([c]), 0) for c in (((1,), (2, 1), (1,)), ((2, 1), (1,)) * 2, ((2, 1), (1,), (1,)) * 2, ((1,),) * 197 + ((2, 1), (1,)))]
+    lines += small_turns() + long_turns()
+    return [list(line) for line in dict.fromkeys(map(tuple, lines))]
 
 
 # ---- sums and products

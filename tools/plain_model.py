@@ -463,8 +463,13 @@ def census(table, room):
     return "census", (rows, height, longest)
 
 
+def turns(c):
+    """How many of the rotations of a component equal it: of k trees there are k rotations, itself among them."""
+    return sum(c[i:] + c[:i] == c for i in range(len(c)))
+
+
 def component(code, position):
-    """Where the bytes of the component at this position begin in the code, and these bytes; or a refusal, 9 coming last."""
+    """Where the bytes of the component at this position begin in the code, its turns, and these bytes; or a refusal, 9 coming last."""
     try:
         system = accepted(code)
         if position >= len(system):
@@ -472,4 +477,4 @@ def component(code, position):
     except Refused as cause:
         return "refused", cause.args[0]
     after = [b for c in system[position:] for b in written_component(c)]
-    return "part", (len(code) - len(after), written_component(system[position]))
+    return "part", (len(code) - len(after), turns(system[position]), written_component(system[position]))

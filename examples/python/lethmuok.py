@@ -180,3 +180,8 @@ def component(code, position):
     start = _call("lethmuok_component_start", given, _count(position))
     end = _call("lethmuok_component_end", given, _count(position))
     return bytes(given[start:end])
+
+
+def component_turns(code, position):
+    """How many of its rotations equal the component at a position: from 1 to the number of its trees along the cycle."""
+    return _call("lethmuok_component_turns", _given(code), _count(position))

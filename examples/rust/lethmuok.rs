@@ -90,6 +90,7 @@ mod c {
         pub fn lethmuok_longest_cycle(table: *const u8, n: usize) -> i64;
         pub fn lethmuok_component_start(code: *const u8, code_len: usize, position: usize) -> i64;
         pub fn lethmuok_component_end(code: *const u8, code_len: usize, position: usize) -> i64;
+        pub fn lethmuok_component_turns(code: *const u8, code_len: usize, position: usize) -> i64;
     }
 }
 
@@ -192,4 +193,9 @@ pub fn component(code: &[u8], position: usize) -> Result<&[u8], Refusal> {
         (Reply::Refused(cause), _) => Err(cause),
         _ => unreachable!("the library has no other answers"),
     }
+}
+
+/// How many of its rotations equal the component at a position: from 1 to the number of its trees along the cycle.
+pub fn component_turns(code: &[u8], position: usize) -> Reply {
+    unsafe { c::lethmuok_component_turns(code.as_ptr(), code.len(), position) }.into()
 }

@@ -74,6 +74,13 @@ impl Component {
         codes(&self.flat).all(is_tree) && is_least_rotation(&self.flat)
     }
 
+    /// How many of the rotations of the list of trees equal it (document 02, paper 6). All are looked at, the list itself being one of them.
+    pub fn turns(&self) -> usize {
+        let trees: Vec<&[u8]> = codes(&self.flat).collect();
+        let rotation = |start: usize| [&trees[start..], &trees[..start]].concat();
+        (0..trees.len()).filter(|&start| rotation(start) == trees).count()
+    }
+
     /// How many trees at the beginning are points.
     pub fn leading_points(&self) -> usize {
         self.flat.iter().take_while(|&&size| size == 1).count()

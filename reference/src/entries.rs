@@ -155,3 +155,7 @@ pub fn component_start(code: &[u8], position: usize) -> i64 {
 pub fn component_end(code: &[u8], position: usize) -> i64 {
     reply(component_part(code, position).map(|(_, end)| end as i64))
 }
+
+pub fn component_turns(code: &[u8], position: usize) -> i64 {
+    reply(accepted(code).and_then(|system| system.get(position).map(|component| component.turns() as i64).ok_or(Cause::Position)))
+}

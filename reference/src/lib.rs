@@ -7,6 +7,7 @@
 //! no comparison would show it. The published examples, lists and totals, which both are held against, guard against that.
 //! The step back came later, and its author had read the notes after which the engine's is made; `tools/plain_model.py` looks for it by the step forward alone.
 //! Sum and product came later, too; their author had read the definitions, and numbers the points of a result otherwise than these do.
+//! So did the turns of a component; they are counted over all rotations, and share nothing with the test for the least one.
 //!
 //! A reply is a length or n, minus the number of the cause of a refusal, or one of [`LAST`], [`NONE`] and [`FIRST`]; that of a page is two numbers, [`PageReply`].
 

@@ -1,4 +1,4 @@
-//! The examples and totals of document 01, and the pages, steps back, sums and products of document 02.
+//! The examples and totals of document 01, and the pages, steps back, sums, products and turns of document 02.
 
 use crate::*;
 
@@ -333,5 +333,98 @@ fn laws_of_sum_and_product() {
                 assert_eq!(times(&add(a, b), c), add(&times(a, c), &times(b, c)));
             }
         }
+    }
+}
+
+/// The bytes of a number.
+fn number(x: usize) -> Vec<u8> {
+    if x < 128 {
+        vec![x as u8]
+    } else {
+        vec![(x % 128 + 128) as u8, (x / 128) as u8]
+    }
+}
+
+/// The code of the component with these trees of small sizes along its cycle.
+fn component_of(trees: &[&[u8]]) -> Vec<u8> {
+    let flat = trees.concat();
+    [number(flat.len()), number(1), number(trees.len()), flat].concat()
+}
+
+#[test]
+fn turns() {
+    let (point, two, three, path): (&[u8], &[u8], &[u8], &[u8]) = (&[1], &[2, 1], &[3, 1, 1], &[3, 2, 1]);
+    let (pair, triple) = ([point, two], [point, point, two]);
+    let cases: [(Vec<&[u8]>, i64); 20] = [
+        (vec![point; 3], 3),
+        (vec![point, two], 1),
+        (vec![point], 1),
+        (vec![three], 1),
+        (pair.repeat(2), 2),
+        (triple.repeat(2), 2),
+        (vec![three, path], 1),
+        ([three, path].repeat(3), 3),
+        // a b a, and other powers that are cut off
+        (vec![point, point, two], 1),
+        ([&[point][..], &pair.repeat(2)].concat(), 1),
+        ([&triple.repeat(3)[..], &pair].concat(), 1),
+        // one tree changed
+        ([&pair.repeat(3)[..], &[point, three]].concat(), 1),
+        ([&[point; 198][..], &[two]].concat(), 1),
+        ([&[two; 98][..], &[three]].concat(), 1),
+        ([&triple.repeat(49)[..], &[point, three]].concat(), 1),
+        // powers inside of a power
+        ([&pair.repeat(4)[..], &[three]].concat().repeat(13), 13),
+        (vec![point; 200], 200),
+        (vec![two; 100], 100),
+        (triple.repeat(50), 50),
+        ([&[point; 98][..], &[two]].concat().repeat(2), 2),
+    ];
+    for (trees, turns) in cases {
+        let code = component_of(&trees);
+        assert_eq!((accept(&code), component_turns(&code, 0)), (trees.concat().len() as i64, turns), "{trees:?}");
+    }
+    let code = [8, 3, 2, 1, 1, 1, 3, 2, 1, 2, 1, 2, 1];
+    assert_eq!([0, 1, 2].map(|position| component_turns(&code, position)), [2, 1, 1]);
+}
+
+#[test]
+fn refused_turns() {
+    let bad: [(&[u8], i64); 7] =
+        [(&[201, 1], -1), (&[], -3), (&[129, 0], -4), (&[0, 1], -5), (&[3, 1, 2, 2, 1, 1], -6), (&[4, 1, 4, 1, 1, 1, 1, 9], -7), (&[0, 0], -9)];
+    for (code, reply) in bad {
+        for position in [0, 1, usize::MAX] {
+            assert_eq!(component_turns(code, position), reply, "{code:?}");
+        }
+    }
+    assert_eq!([0, 1, 2, usize::MAX].map(|position| component_turns(&[3, 2, 1, 1, 2, 1, 1], position)), [1, 2, -9, -9]);
+    assert_eq!(component_turns(&[8, 2, 4, 1, 1, 1, 1, 4, 1, 1, 1, 1], 2), -9);
+    // the rotations of (1)(1)(2 1) that do not equal it are refused
+    assert_eq!([&[4, 1, 3, 1, 2, 1, 1], &[4, 1, 3, 2, 1, 1, 1]].map(|code| component_turns(code, 0)), [-6, -6]);
+}
+
+/// The number at the start, and the bytes behind it.
+fn first_number(bytes: &[u8]) -> (usize, &[u8]) {
+    match bytes[0] as usize {
+        low if low < 128 => (low, &bytes[1..]),
+        low => (low - 128 + 128 * bytes[1] as usize, &bytes[2..]),
+    }
+}
+
+#[test]
+fn turns_divide_the_trees_and_grow_with_copies() {
+    let state = &mut 3;
+    for round in 0..2000 {
+        let n = 1 + random(state, if round % 2 == 0 { 200 } else { 12 });
+        let code = written(|out| code_of_map(&some_map(state, n), out)).unwrap();
+        let position = random(state, parts(&code).len());
+        let part = &code[component_start(&code, position) as usize..component_end(&code, position) as usize];
+        let (turns, (k, trees)) = (component_turns(&code, position), first_number(part));
+        assert!((1..=k as i64).contains(&turns) && k as i64 % turns == 0, "{code:?}");
+        // no second byte of a number is above 127
+        let points = trees.iter().filter(|&&byte| byte < 128).count();
+        let copies = 1 + random(state, 200 / points);
+        let longer = [number(copies * points), number(1), number(copies * k), trees.repeat(copies)].concat();
+        assert_eq!(component_turns(&longer, 0), copies as i64 * turns, "{longer:?}");
     }
 }

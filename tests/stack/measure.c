@@ -25,6 +25,7 @@ static void height(void) { lethmuok_height(table, table_len); }
 static void longest_cycle(void) { lethmuok_longest_cycle(table, table_len); }
 static void component_start(void) { lethmuok_component_start(code, code_len, 0); }
 static void component_end(void) { lethmuok_component_end(code, code_len, 0); }
+static void component_turns(void) { lethmuok_component_turns(code, code_len, 0); }
 
 /* The code with a neutral one on either side, so that the result has as many points, and with itself. */
 static void with_both_sides(int64_t of(const uint8_t *, size_t, const uint8_t *, size_t, uint8_t *, size_t), const uint8_t *neutral, size_t neutral_len)
@@ -51,7 +52,7 @@ static struct entry {
 } entries[] = {
     {"accept", accept, 0}, {"first", first, 0}, {"successor", successor, 0}, {"predecessor", predecessor, 0}, {"page", page, 0}, {"code_of_map", code_of_map, 0},
     {"map_of_code", map_of_code, 0}, {"sum", sum, 0}, {"product", product, 0}, {"isomorphism", isomorphism, 0}, {"census", census, 0}, {"height", height, 0},
-    {"longest_cycle", longest_cycle, 0}, {"component_start", component_start, 0}, {"component_end", component_end, 0},
+    {"longest_cycle", longest_cycle, 0}, {"component_start", component_start, 0}, {"component_end", component_end, 0}, {"component_turns", component_turns, 0},
 };
 enum { ENTRIES = sizeof entries / sizeof entries[0] };
 
@@ -102,12 +103,12 @@ static unsigned below(unsigned n)
 
 static void shapes(unsigned n)
 {
-    for (int shape = 0; shape < 10; shape++) {
+    for (int shape = 0; shape < 11; shape++) {
         for (unsigned x = 0; x < n; x++) {
             unsigned before = x ? x - 1 : 0;
             unsigned comb = x < n / 2 ? before : x - n / 2, pairs = x % 2 ? x - 1 : (x + 1) % n, two_paths = x == n / 2 ? x : before;
-            unsigned fork = x == n - 1 ? n - 3 : before, doubled = x < 2 ? 0 : x - 2;
-            unsigned images[] = {before, (x + 1) % n, 0, x, before / 2, comb, pairs, two_paths, fork, doubled};
+            unsigned fork = x == n - 1 ? n - 3 : before, doubled = x < 2 ? 0 : x - 2, periodic = x < n / 2 ? (x + 1) % (n / 2) : x - n / 2;
+            unsigned images[] = {before, (x + 1) % n, 0, x, before / 2, comb, pairs, two_paths, fork, doubled, periodic};
             table[x] = (uint8_t)images[shape];
         }
         all_entries(n);

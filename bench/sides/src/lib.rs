@@ -22,6 +22,7 @@ pub struct Side {
     pub longest_cycle: fn(&[u8]) -> i64,
     pub component_start: fn(&[u8], usize) -> i64,
     pub component_end: fn(&[u8], usize) -> i64,
+    pub component_turns: fn(&[u8], usize) -> i64,
 }
 
 pub use reference::{PageReply, FIRST, LAST, MOST_WANTED, NONE};
@@ -37,6 +38,9 @@ pub const HAS_PREDECESSOR: bool = cfg!(not(without_predecessor));
 
 /// The same of the entries `sum` and `product`, which came together.
 pub const HAS_SUM: bool = cfg!(not(without_sum));
+
+/// The same of the turns that the component reader tells.
+pub const HAS_TURNS: bool = cfg!(not(without_component_turns));
 
 pub const REFERENCE: Side = Side {
     name: "reference",
@@ -55,6 +59,7 @@ pub const REFERENCE: Side = Side {
     longest_cycle: reference::longest_cycle,
     component_start: reference::component_start,
     component_end: reference::component_end,
+    component_turns: reference::component_turns,
 };
 
 /// The C prototypes of the static library: a slice is a pointer, never null, and a count.
@@ -80,6 +85,8 @@ mod c {
         pub fn lethmuok_longest_cycle(table: *const u8, n: usize) -> i64;
         pub fn lethmuok_component_start(code: *const u8, len: usize, position: usize) -> i64;
         pub fn lethmuok_component_end(code: *const u8, len: usize, position: usize) -> i64;
+        #[cfg(not(without_component_turns))]
+        pub fn lethmuok_component_turns(code: *const u8, len: usize, position: usize) -> i64;
     }
 }
 
@@ -115,6 +122,10 @@ pub const ENGINE: Side = Side {
     longest_cycle: |table| unsafe { c::lethmuok_longest_cycle(table.as_ptr(), table.len()) },
     component_start: |code, position| unsafe { c::lethmuok_component_start(code.as_ptr(), code.len(), position) },
     component_end: |code, position| unsafe { c::lethmuok_component_end(code.as_ptr(), code.len(), position) },
+    #[cfg(not(without_component_turns))]
+    component_turns: |code, position| unsafe { c::lethmuok_component_turns(code.as_ptr(), code.len(), position) },
+    #[cfg(without_component_turns)]
+    component_turns: |_, _| panic!("this library has no component_turns"),
 };
 
 /// What an entry writes into a buffer that holds every result, or its reply.

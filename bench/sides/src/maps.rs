@@ -117,7 +117,79 @@ pub fn deep(n: usize, random: &mut Random) -> Vec<u8> {
     table(n, |x| x.saturating_sub(1 + random.below(3)))
 }
 
-/// All kinds.
+/// A tree: of each point the earlier one that it hangs at. The root stands first, and its number says nothing.
+type Tree = Vec<usize>;
+
+/// Small random trees of so many points together.
+fn trees(points: usize, random: &mut Random) -> Vec<Tree> {
+    let (most, mut left, mut found) = (1 + random.below(4), points, Vec::new());
+    while left > 0 {
+        let size = 1 + random.below(left.min(most));
+        found.push((0..size).map(|x| random.below(x.max(1))).collect());
+        left -= size;
+    }
+    found
+}
+
+/// Trees of at most so many points, a few or more of them, to stand along a cycle over and over.
+fn period(most: usize, random: &mut Random) -> Vec<Tree> {
+    let points = most.min(*random.pick(&[1, 3, 12, 70]));
+    trees(1 + random.below(points), random)
+}
+
+fn points(trees: &[Tree]) -> usize {
+    trees.iter().map(Vec::len).sum()
+}
+
+/// The component with these trees along its cycle.
+fn along_cycle(trees: &[Tree]) -> Vec<u8> {
+    let mut images = Vec::new();
+    for (place, tree) in trees.iter().enumerate() {
+        let root = images.len();
+        let next = if place + 1 == trees.len() { 0 } else { root + tree.len() };
+        images.extend(tree.iter().enumerate().map(|(x, &at)| if x == 0 { next as u8 } else { (root + at) as u8 }));
+    }
+    images
+}
+
+/// A few trees along a cycle, over and over. The points that are left make a cycle of their own.
+pub fn periodic(n: usize, random: &mut Random) -> Vec<u8> {
+    let period = period(n, random);
+    let mut images = along_cycle(&vec![&period[..]; n / points(&period)].concat());
+    let (start, left) = (images.len(), n - images.len());
+    images.extend((0..left).map(|x| (start + (x + 1) % left) as u8));
+    images
+}
+
+/// A few trees along a cycle, over and over as long as there are points; of the last tree there may be a part.
+pub fn cut_off(n: usize, random: &mut Random) -> Vec<u8> {
+    let (period, mut left, mut found) = (period(n, random), n, Vec::new());
+    for tree in period.iter().cycle() {
+        let size = tree.len().min(left);
+        left -= size;
+        found.push(tree[..size].to_vec());
+        if left == 0 {
+            break;
+        }
+    }
+    along_cycle(&found)
+}
+
+/// A few trees along a cycle, over and over. The points that are left, at least one, hang at one point, so that one tree is another.
+pub fn one_changed(n: usize, random: &mut Random) -> Vec<u8> {
+    if n == 1 {
+        return vec![0];
+    }
+    let period = period(n - 1, random);
+    let mut images = along_cycle(&vec![&period[..]; (n - 1) / points(&period)].concat());
+    images.resize(n, random.below(images.len()) as u8);
+    images
+}
+
+/// Kinds whose cycles are periodic, or nearly so. They stand beside the others, which have rows of their own in the tables of times.
+pub const PERIODIC: [Kind; 3] = [("periodic cycle", periodic), ("periodic cycle, cut off", cut_off), ("periodic cycle, one tree changed", one_changed)];
+
+/// All other kinds.
 pub const KINDS: [Kind; 17] = [
     ("random", uniform),
     ("star", star),

@@ -7,7 +7,7 @@ mod labelg;
 mod work;
 
 use clock::own_seconds;
-use sides::{Side, ENGINE, HAS_PAGE, HAS_PREDECESSOR, HAS_SUM, REFERENCE};
+use sides::{Side, ENGINE, HAS_PAGE, HAS_PREDECESSOR, HAS_SUM, HAS_TURNS, REFERENCE};
 use work::Work;
 
 /// Each work is repeated so often, what is compared taking turns.
@@ -82,6 +82,10 @@ fn main() {
     table("Isomorphism of two maps of 200 points", work::isomorphisms());
     table("Census of a map of 200 points", work::censuses());
     table("Accept, on codes of 200 points and on other bytes", work::acceptances());
+    table("Where the components of codes of 200 points begin", work::starts_of_components());
+    if HAS_TURNS {
+        table("Turns of the components of codes of 200 points", work::turns_of_components());
+    }
     table("Other entries on random maps of 200 points", work::others());
     if let Some(file) = std::env::args().nth(1) {
         labelg::table(file.as_ref());

@@ -249,11 +249,53 @@ pub fn others() -> Vec<Work> {
     vec![calls("map of a code", codes, |side, code, out| (side.map_of_code)(code, out), equal)]
 }
 
-/// Accept of each of these, good or bad. A call is short, so they are gone through again until there are a thousand. The number of points is compared too.
-fn accepts(name: &str, codes: Vec<Vec<u8>>) -> Work {
-    let times = 1000_usize.div_ceil(codes.len());
-    let once = calls(name, codes, |side, code, _| (side.accept)(code), equal);
+/// A work whose calls are short: they are gone through again until there are a thousand.
+fn a_thousand(once: Work) -> Work {
+    let times = 1000_usize.div_ceil(once.calls);
     Work { calls: once.calls * times, run: Box::new(move |side| (0..times).map(|_| (once.run)(side)).fold(0, u64::wrapping_add)), ..once }
+}
+
+/// Accept of each of these, good or bad. The number of points is compared too.
+fn accepts(name: &str, codes: Vec<Vec<u8>>) -> Work {
+    a_thousand(calls(name, codes, |side, code, _| (side.accept)(code), equal))
+}
+
+/// An entry of the component reader.
+type Reader = fn(&Side) -> fn(&[u8], usize) -> i64;
+
+/// Every component of each of these codes. The numbers that are told are compared too.
+fn reads(name: String, reader: Reader, codes: &[Vec<u8>]) -> Work {
+    let positions = |code: &Vec<u8>| (0..).take_while(|&position| (REFERENCE.component_start)(code, position) >= 0).count();
+    let inputs = codes.iter().flat_map(|code| (0..positions(code)).map(|position| (reader, code.clone(), position))).collect();
+    a_thousand(calls(&name, inputs, |side, (reader, code, position), _| reader(side)(code, *position), equal))
+}
+
+/// Codes with periodic cycles, and nearly periodic ones; random ones, and ones of many components.
+fn read_codes() -> Vec<(&'static str, Vec<Vec<u8>>)> {
+    let period = [(2, &[1][..]), (1, &[2, 1])];
+    let of_kind = |name: &str| tables(KINDS.into_iter().find(|kind| kind.0 == name).expect("a kind"), 10).iter().map(|table| code_of(table)).collect();
+    vec![
+        ("200 points along one cycle", vec![component(&[(200, &[1])])]),
+        ("198 points along a cycle, then a tree of 2", vec![component(&[(198, &[1]), (1, &[2, 1])])]),
+        ("trees of 2 along the whole cycle", vec![component(&[(100, &[2, 1])])]),
+        ("97 trees of 2 along a cycle, then two of 3", vec![component(&[(97, &[2, 1]), (2, &[3, 2, 1])])]),
+        ("50 times: two points along a cycle, then a tree of 2", vec![component(&period.repeat(50))]),
+        (
+            "49 times: two points along a cycle, then a tree of 2; then a point and a tree of 3",
+            vec![component(&[period.repeat(49), vec![(1, &[1][..]), (1, &[3, 2, 1])]].concat())],
+        ),
+        ("twice: 98 points along a cycle, then a tree of 2", vec![component(&[(98, &[1][..]), (1, &[2, 1])].repeat(2))]),
+        ("random", of_kind("random")),
+        ("small components", of_kind("small components")),
+    ]
+}
+
+pub fn starts_of_components() -> Vec<Work> {
+    read_codes().into_iter().map(|(name, codes)| reads(format!("start: {name}"), |side| side.component_start, &codes)).collect()
+}
+
+pub fn turns_of_components() -> Vec<Work> {
+    read_codes().into_iter().map(|(name, codes)| reads(format!("turns: {name}"), |side| side.component_turns, &codes)).collect()
 }
 
 /// The length of a hostile input.

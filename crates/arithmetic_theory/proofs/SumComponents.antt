@@ -18,7 +18,8 @@ use Rattle.patterns.specs.Table.{image, systemOf, systemOfTable}
 use Rattle.patterns.specs.MapOf.{innerImages, cycleImages, imagesFrom, mapOf}
 use Rattle.patterns.specs.Arithmetic.{sumTable, sumOf}
 use Rattle.map_theory.proofs.Pictures.{shapes}
-use Rattle.map_theory.proofs.Ordered.{canonical-valid, sort-canonical}
+use Rattle.component_theory.proofs.CanonicalComponents.{canonical-valid}
+use Rattle.map_theory.proofs.Ordered.{sort-canonical}
 use Rattle.map_theory.proofs.Shown.{components-shown}
 use Rattle.map_theory.proofs.MapOf.{numberedSystem, numberedSystem-shapes, length-mapOf, mapOf-picture}
 use Rattle.arithmetic_theory.proofs.SystemLaws.{sum-canonical}

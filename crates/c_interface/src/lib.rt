@@ -8,13 +8,14 @@ use signed_replies::predecessor_number;
 use signed_replies::reply_number;
 use signed_replies::start_number;
 use signed_replies::successor_number;
+use signed_replies::turns_number;
 ghost use denote.Ref.{now};
 ghost use mathlib.Core.Path.{_≡_};
 ghost use Rattle.patterns.specs.Entry.{acceptOf, firstOf, successorOf, codeOfMap, mapOfCode, heightOf, longestOf};
 ghost use Rattle.patterns.specs.Page.{pageOf};
 ghost use Rattle.patterns.specs.Predecessor.{predecessorOf};
 ghost use Rattle.patterns.specs.Arithmetic.{sumOfCodes, productOfCodes};
-ghost use Rattle.patterns.specs.SignedReplies.{signedOf, Reported, PageReported, IsomorphismReported, CensusReported, componentStart, componentEnd};
+ghost use Rattle.patterns.specs.SignedReplies.{signedOf, Reported, PageReported, IsomorphismReported, CensusReported, componentStart, componentEnd, componentTurns};
 
 // n, or the refusal of a code.
 #[no_mangle]
@@ -134,4 +135,12 @@ pub extern "C" fn lethmuok_component_end(code: &[u8], position: usize) -> i64
     ensures { λ r. ⌜ r ≡ signedOf (componentEnd (now (code .entry)) position) ⌝ }
 {
     end_number(stretch_of(code, position))
+}
+
+// How many of the component's rotations equal it [document 02, paper 6: turns].
+#[no_mangle]
+pub extern "C" fn lethmuok_component_turns(code: &[u8], position: usize) -> i64
+    ensures { λ r. ⌜ r ≡ signedOf (componentTurns (now (code .entry)) position) ⌝ }
+{
+    turns_number(stretch_of(code, position))
 }

@@ -1,6 +1,7 @@
 // A merge of two neighbouring trees of a component, where it is a child [document 004, Lemma 12].
 // A component is flat: a slice of as many bytes as it has points, the codes of its trees one after another.
-use components::has_least_rotation;
+use components::Rotation;
+use components::least_rotation;
 use trees::at_most;
 use trees::last_branch;
 use trees::merge_left;
@@ -9,10 +10,23 @@ ghost use denote.Ref.{now};
 ghost use mathlib.Core.Path.{_≡_};
 ghost use Prim.Native.Nat.{ℕ, suc, _+_};
 ghost use lib.ListN.{length};
-ghost use Rattle.lists.specs.Select.{first};
-ghost use Rattle.patterns.specs.Component.{Component, flat};
+ghost use Rattle.lists.specs.Order.{atMost};
+ghost use Rattle.lists.specs.Select.{each, first};
+ghost use Rattle.patterns.specs.Component.{Component, flat, compareComponent, rotations};
 ghost use Rattle.component_theory.specs.ChildPlaces.{childAt};
+ghost use Rattle.memory.specs.Memory.{Held};
 ghost use Rattle.children.specs.Candidates.{HeldCandidate, Gave};
+
+// No rotation of the component is less.
+fn is_least(s: &[u8]) -> bool
+    requires { ⌜ Held (now s) ⌝ }
+    ensures { λ r. ⌜ ((c : Component) → now (s .entry) ≡ flat c → r ≡ each (atMost compareComponent c) (rotations c)) ⌝ }
+{
+    match least_rotation(s) {
+        Rotation::Least(_) => true,
+        Rotation::Lesser => false,
+    }
+}
 
 // The left merge at `i`, where it is a child.
 pub fn left_child(s: &[u8], i: usize, out: &mut [u8]) -> bool
@@ -25,7 +39,7 @@ pub fn left_child(s: &[u8], i: usize, out: &mut [u8]) -> bool
         return false;
     }
     merge_left(s, i, out);
-    has_least_rotation(out)
+    is_least(out)
 }
 
 // The right merge at `i`, where it is a child and not the left merge too.
@@ -41,7 +55,7 @@ pub fn right_child(s: &[u8], i: usize, out: &mut [u8]) -> bool
     let l = j + last_branch(&s[j..e]);
     if at_most(&s[l..e], &s[i..j]) {
         merge_right(s, i, out);
-        return has_least_rotation(out);
+        return is_least(out);
     }
     false
 }

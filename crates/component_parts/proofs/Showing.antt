@@ -7,13 +7,13 @@ use lib.ListN.{length, getD}
 use Rattle.lists.proofs.Tests.{clash}
 use Rattle.patterns.specs.declared.Refusal.{Refusal}
 use Rattle.patterns.specs.declared.reply.Stretch.{Stretch}
-use Rattle.patterns.specs.declared.reply.Stretch.the-variants.{Part, Refused}
+use Rattle.patterns.specs.declared.reply.Stretch.the-variants.{Part as Shows, Refused}
 use Rattle.patterns.specs.System.{System}
 use Rattle.patterns.specs.Reading.{Result, done, fault, accepted}
-use Rattle.patterns.specs.Replies.{numberOf, PartAnswer, part-is, part-refused, partAnswer}
-use Rattle.patterns.specs.Entry.{componentOf, componentIn, partAnswered, PartOf, Shown}
+use Rattle.patterns.specs.Replies.{numberOf, PartAnswer, part-refused, partAnswer}
+use Rattle.patterns.specs.Entry.{Part, componentOf, componentIn, partAnswered, PartOf, Shown}
 use Rattle.form_theory.proofs.Bounds.{below-at}
-use Rattle.form_theory.proofs.ComponentStands.{stands, stands-within}
+use Rattle.form_theory.proofs.ComponentStands.{stands, stands-within, answer-part}
 
 -- the code's own fault comes first
 pub code-fault : (b : List ℕ) (i : ℕ) (c : Refusal) → accepted b ≡ fault c → part-refused (numberOf c) ≡ partAnswered (componentOf b i)
@@ -25,29 +25,21 @@ pub code-holds : (b : List ℕ) (i : ℕ) (S : System) → accepted b ≡ done S
 unfolding componentOf
 code-holds b i S e a p = rw e p
 
--- what a reply says of the result
-pub answer-part : (o : Result (ℕ × ℕ)) (start end : ℕ) → part-is start end ≡ partAnswered o → o ≡ done (start, end)
-answer-part (done ends) start end e =
-    let p : start ≡ ends .0 = cc in
-    let q : end ≡ ends .1 = cc in
-    rw (p, q)
-answer-part (fault c) start end e = clash cc
-
-pub answer-refused : (o : Result (ℕ × ℕ)) (n : ℕ) → part-refused n ≡ partAnswered o → (c : Refusal) × (o ≡ fault c)
-answer-refused (done ends) n e = clash cc
+pub answer-refused : (o : Result Part) (n : ℕ) → part-refused n ≡ partAnswered o → (c : Refusal) × (o ≡ fault c)
+answer-refused (done part) n e = clash cc
 answer-refused (fault c) n e = (c, refl)
 
 -- From the reply to what is shown.
 module _ (code : RefT (List ℕ)) (i : ℕ) {r : Stretch} (a : partAnswer r ≡ partAnswered (componentOf (now code) i)) where
-  found : (start end : ℕ) → r ≡ Part start end → componentOf (now code) i ≡ done (start, end)
-  found start end e = answer-part (componentOf (now code) i) start end (sym (ap partAnswer e) ∙ a)
+  module _ (start end turns : ℕ) (e : r ≡ Shows start end turns) where
+    found : componentOf (now code) i ≡ done (record { start = start; end = end; turns = turns })
+    found = answer-part (componentOf (now code) i) start end turns (sym (ap partAnswer e) ∙ a)
 
-  pub part-within : (start end : ℕ) → r ≡ Part start end → ((j : ℕ) → j < length (now code) → getD (now code) j 0 < 256)
-      → (start < end) × (end ≤ length (now code))
-  part-within start end e h = stands-within (below-at 256 (now code) h) (stands (now code) i start end (found start end e))
+    pub part-within : ((j : ℕ) → j < length (now code) → getD (now code) j 0 < 256) → (start < end) × (end ≤ length (now code))
+    part-within h = stands-within (below-at 256 (now code) h) (stands (now code) i _ found)
 
-  pub part-shown : (start end : ℕ) → r ≡ Part start end → (part : RefT (List ℕ)) → PartOf code start end part → Shown code (componentOf (now code) i) part
-  part-shown start end e part p = rw (found start end e) p
+    pub part-shown : (part : RefT (List ℕ)) → PartOf code start end part → Shown code (componentOf (now code) i) part
+    part-shown part p = rw found p
 
   pub nothing-shown : (c : Refusal) → r ≡ Refused c → (part : RefT (List ℕ)) → PartOf code 0 0 part → Shown code (componentOf (now code) i) part
   nothing-shown c e part p =

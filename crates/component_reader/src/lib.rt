@@ -31,7 +31,7 @@ pub fn moved<'a>(r: ComponentReader<'a>, position: usize) -> ComponentReader<'a>
     }
 }
 
-// Where the component that the reader is at stands in its code, or the cause of a refusal.
+// Where the component that the reader is at stands in its code and how many of its rotations equal it, or the cause of a refusal.
 pub fn reply<'a>(r: ComponentReader<'a>) -> Stretch
     ensures { λ s. ⌜ partAnswer s ≡ partAnswered (componentOf (now (r .entry .code)) (r .entry .position)) ⌝ }
 {

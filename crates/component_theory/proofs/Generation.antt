@@ -14,7 +14,7 @@ use Rattle.lists.proofs.Comparison.{atMost-self}
 use Rattle.lists.proofs.Members.{NoDup, not-in-nil, of-replicate}
 use Rattle.lists.proofs.Reversed.{in-reverse, of-reverse, nodup-reverse}
 use Rattle.patterns.specs.Tree.{point, merge, validTree}
-use Rattle.patterns.specs.Component.{Component, points, compareComponent, turn, turns, validComponent}
+use Rattle.patterns.specs.Component.{Component, points, compareComponent, turn, firstRotations, validComponent}
 use Rattle.patterns.specs.Generation.{hasParent, parent, children, walk, cycle, generation}
 use Rattle.patterns.proofs.Trees.{size-positive, compareComponent-lawful}
 use Rattle.component_theory.proofs.Lemma8.{parent-valid, parent-points, parent-length}
@@ -93,7 +93,7 @@ cycle-turn (suc n) = pushed n
     pushed zero = refl
     pushed (suc n) = ap (λ l. point ∷ l) (pushed n)
 
-each-turned : (p : Component → Bool) (k : ℕ) (c : Component) → turn c ≡ c → p c ≡ true → each p (turns k c) ≡ true
+each-turned : (p : Component → Bool) (k : ℕ) (c : Component) → turn c ≡ c → p c ≡ true → each p (firstRotations k c) ≡ true
 each-turned p zero c e q = refl
 each-turned p (suc k) c e q = rw (q, e) (each-turned p k c e q)
 

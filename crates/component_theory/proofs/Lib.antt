@@ -1,4 +1,5 @@
 -- The theory of components: Lemma 8, children and their keys, the generation list, its order by paths, and the local step.
+pub mod CanonicalComponents
 pub mod Unmerging
 pub mod Lemma8
 pub mod Children
@@ -12,3 +13,6 @@ pub mod Pieces
 pub mod LocalStep
 pub mod Successor
 pub mod LastComponent
+pub mod Powers
+pub mod RotationSymmetry
+pub mod Prenecklaces

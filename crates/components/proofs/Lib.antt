@@ -1,4 +1,5 @@
 -- The theory of this layer.
-pub mod Turning
+pub mod Validity
 pub mod OnePass
+pub mod RotationAnswers
 pub mod Climbing

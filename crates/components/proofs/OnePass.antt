@@ -2,23 +2,28 @@
 use mathlib.Core.Path.{_≡_, refl, ap, ap₂, sym, _∙_, subst}
 use mathlib.Core.Bool.{true, false}
 use mathlib.Core.List.{List, [], _∷_, _++_, append-assoc, head-eq-of-cons-eq}
-use Prim.Native.Nat.{ℕ, _+_, _-_, _≤_, _<_, compare, Ordering, Ordering·lt, Ordering·eq, Ordering·gt}
+use Prim.Native.Nat.{ℕ, zero, suc, _+_, _-_, _*_, _/_, _%_, _≤_, _<_, compare, Ordering, Ordering·lt, Ordering·eq, Ordering·gt}
+use native.Mathlib.Nat.{add-zero, mod-eq-of-lt, div-eq-of-lt, mul-add-mod-self-right, mul-add-div-right}
 use native.Mathlib.Omega.{arith}
 use lib.Dec.{isLe}
 use lib.ListN.{length, getD, take, drop, length-append, take-append-drop}
 use lib.Seq.{take-append-le, take-all}
 use Rattle.lists.specs.Order.{lex, atMost}
 use Rattle.lists.specs.Select.{each}
-use Rattle.lists.proofs.Tests.{_∈_, same-tests, each-true, each-member, each-false}
+use Rattle.lists.proofs.Tests.{_∈_, cond-true, cond-false, each-true, each-false}
 use Rattle.lists.proofs.Members.{in-list}
-use Rattle.lists.proofs.Necklace.{Prenecklace, Earlier, prenecklace-one, earlier, prenecklace-equal, prenecklace-greater, prenecklace-smaller, necklace}
-use Rattle.patterns.specs.Tree.{code, compareTree}
-use Rattle.patterns.specs.Component.{Component, points, flat, rotations, compareComponent, nonempty}
-use Rattle.patterns.proofs.Trees.{length-flat, flat-append, points-append, compareTree-lawful}
+use Rattle.lists.proofs.Necklace.{Prenecklace, Earlier, prenecklace-one, earlier, prenecklace-equal, prenecklace-greater, prenecklace-smaller}
+use Rattle.patterns.specs.Tree.{size, code, compareTree}
+use Rattle.patterns.specs.Component.{Component, points, flat, rotations, compareComponent, rotationSymmetry, nonempty}
+use Rattle.patterns.proofs.Trees.{size-positive, length-flat, flat-append, points-append, compareTree-lawful}
 use Rattle.patterns.proofs.Rotations.{rotation-append, split-of-rotation}
 use Rattle.memory.specs.Memory.{Held}
 use Rattle.trees.proofs.Walks.{Along, Next, next-tree, next-stretch, along-next, along-step, along-end, along-whole, no-trees}
-use Rattle.components.proofs.Turning.{turned-trees}
+use Rattle.component_theory.proofs.Powers.{Powers, powers-total, over-light}
+use Rattle.component_theory.proofs.RotationSymmetry.{symmetry-is}
+use Rattle.component_theory.proofs.Prenecklaces.{prenecklace-powers, period-count, whole-return, whole-necklace, over-less}
+use Rattle.components.specs.RotationTest.{rotationTest}
+use Rattle.components.specs.declared.Rotation.the-variants.{Least, Lesser}
 
 -- the trees so far are a prenecklace, whose period has so many points
 pub record Period (period : ℕ) (a : Component) : Type 0 where
@@ -30,10 +35,15 @@ abbrev pub Kept : ℕ → Component → Component → Type 0
 Kept period a r = Period period a
 
 -- no bytes: there is no rotation
-pub none-less : (s : List ℕ) → length s ≡ 0 → (c : Component) → s ≡ flat c → true ≡ each (atMost compareComponent c) (rotations c)
+pub none-less : (s : List ℕ) → length s ≡ 0 → (c : Component) → s ≡ flat c → Least 0 ≡ rotationTest c
+unfolding rotationSymmetry
 none-less s h c e =
     let q : c ≡ [] = no-trees c (omega (arith, ap length e, length-flat c)) in
     rw q
+
+-- some rotation is less
+lesser-told : (c : Component) {r : Component} → r ∈ rotations c → atMost compareComponent c r ≡ false → Lesser ≡ rotationTest c
+lesser-told c m f = sym (cond-false (Least (rotationSymmetry c)) Lesser (each-false (atMost compareComponent c) m f))
 
 -- the first tree is a period
 pub kept-start : {s : List ℕ} → Held s → 0 < length s → Along s (getD s 0 0) (Kept (getD s 0 0))
@@ -54,6 +64,16 @@ turned-in k [] h = absurd (omega arith)
 turned-in k (t ∷ c) h =
     let q = take-append-drop k (t ∷ c) in
     in-list (ap rotations q) (rotation-append (take k (t ∷ c)) (drop k (t ∷ c)) (ap nonempty q))
+
+-- some trees have points, and where there are points there are trees
+taken-points : (k : ℕ) (c : Component) → 0 < k → 0 < length c → 0 < points (take k c)
+taken-points zero c h l = absurd (omega arith)
+taken-points (suc k) [] h l = absurd (omega arith)
+taken-points (suc k) (t ∷ c) h l = omega (arith, size-positive t)
+
+some-trees : (c : Component) → (points c ≡ 0 → ⊥) → 0 < length c
+some-trees [] h = absurd (h refl)
+some-trees (t ∷ c) h = omega arith
 
 module _ {s : List ℕ} {at period : ℕ} (w : Along s at (Kept period)) where
   kept-points : at ≡ period + points (drop (w .kept .count) (w .ahead))
@@ -109,29 +129,70 @@ module _ {s : List ℕ} {at period : ℕ} (w : Along s at (Kept period)) where
         })
 
     -- a smaller tree: a rotation is less
-    pub kept-smaller : treesAt s (at - period) at ≡ Ordering·gt → (c : Component) → s ≡ flat c → false ≡ each (atMost compareComponent c) (rotations c)
+    pub kept-smaller : treesAt s (at - period) at ≡ Ordering·gt → (c : Component) → s ≡ flat c → Lesser ≡ rotationTest c
     unfolding compareComponent
     kept-smaller e c q =
         let k = w .kept .count in
         let whole : w .ahead ++ (n .tree ∷ n .later) ≡ c = ap (λ l. w .ahead ++ l) (sym (n .is)) ∙ along-whole w c q in
         let g = prenecklace-smaller compareTree-lawful (w .kept .word) old (n .tree) (sym compared ∙ e) (n .later) (take k c) in
-        sym (each-false (atMost compareComponent c)
+        lesser-told c
         (turned-in k c (omega (arith, ap length whole, length-append (w .ahead) (n .tree ∷ n .later))))
-        (ap isLe (ap (λ d. lex compareTree d (drop k d ++ take k c)) (sym whole) ∙ g)))
+        (ap isLe (ap (λ d. lex compareTree d (drop k d ++ take k c)) (sym whole) ∙ g))
 
-  -- at the end the rotation that begins after the period decides
-  pub kept-end : length s ≤ at → (c : Component) → s ≡ flat c
-      → atMost (lex compare) s (drop period s ++ take period s) ≡ each (atMost compareComponent c) (rotations c)
-  unfolding compareComponent
-  kept-end h c q =
-      let v : Period period c = along-end w h c q in
-      let k = v .count in
-      let cut = take-append-drop k c in
-      turned-trees s (take k c) (drop k c) period (q ∙ ap flat (sym cut)) (v .place)
-      ∙ ap (λ d. atMost compareComponent d (drop k c ++ take k c)) cut
-      ∙ same-tests (atMost compareComponent c (drop k c ++ take k c)) (each (atMost compareComponent c) (rotations c))
-      (λ e. each-true (atMost compareComponent c) (rotations c)
-      (λ r m.
-      let t = split-of-rotation m in
-      ap (atMost compareComponent c) (t .3) ∙ necklace compareTree-lawful (v .word) e (t .0) (t .1) (t .2)))
-      (λ e. each-member (atMost compareComponent c) e (turned-in k c (omega (arith, v .word .positive, v .word .within))))
+  -- At the end: the trees are a power of the period, and then a proper beginning of it.
+  pub period-some : 0 < period
+  period-some =
+      let p = w .kept .word in
+      omega (arith, w .kept .place, taken-points (w .kept .count) (w .ahead) (p .positive) (omega (arith, p .positive, p .within)))
+
+  module _ (h : length s ≤ at) (c : Component) (q : s ≡ flat c) where
+    whole : Period period c
+    whole = along-end w h c q
+
+    abbrev trees : Powers (take (whole .count) c) c
+    trees = prenecklace-powers compareTree-lawful (whole .word)
+
+    points-are : length s ≡ trees .times * period + points (trees .over)
+    points-are =
+        omega (
+          arith,
+          ap length q,
+          length-flat c,
+          powers-total trees size,
+          ap (λ k. trees .times * k) (whole .place),
+        )
+
+    over-small : points (trees .over) < period
+    over-small = omega (arith, over-light trees size size-positive, whole .place)
+
+    rest-is : length s % period ≡ points (trees .over)
+    rest-is = ap (λ k. k % period) points-are ∙ mul-add-mod-self-right (trees .times) period (points (trees .over)) ∙ mod-eq-of-lt over-small
+
+    times-are : length s / period ≡ trees .times
+    times-are =
+        ap (λ k. k / period) points-are
+        ∙ mul-add-div-right period-some (trees .times) (points (trees .over))
+        ∙ ap (λ k. trees .times + k) (div-eq-of-lt over-small)
+        ∙ add-zero (trees .times)
+
+    -- something is over: the rotation that begins after the period is less
+    pub kept-cut : (length s % period ≡ 0 → ⊥) → Lesser ≡ rotationTest c
+    unfolding compareComponent
+    kept-cut k =
+        let n = whole .count in
+        let some : 0 < length (trees .over) = some-trees (trees .over) (λ e. k (rest-is ∙ e)) in
+        lesser-told c (turned-in n c (omega (arith, whole .word .positive, whole .word .within))) (over-less compareTree-lawful (whole .word) trees some)
+
+    -- nothing is over: no rotation is less, and so many equal the component
+    pub kept-whole : length s % period ≡ 0 → Least (length s / period) ≡ rotationTest c
+    unfolding compareComponent
+    kept-whole k =
+        let none : trees .over ≡ [] = no-trees (trees .over) (sym rest-is ∙ k) in
+        let least : each (atMost compareComponent c) (rotations c) ≡ true =
+        each-true (atMost compareComponent c) (rotations c)
+        (λ r m.
+        let t = split-of-rotation m in
+        ap (atMost compareComponent c) (t .3) ∙ whole-necklace compareTree-lawful (whole .word) trees none (t .0) (t .1) (t .2)) in
+        let trees-are : length c ≡ trees .times * whole .count = omega (arith, period-count compareTree-lawful (whole .word) trees, ap length none) in
+        let symmetry = symmetry-is c (whole .count) (trees .times) (whole-return compareTree-lawful (whole .word) trees none) trees-are in
+        ap Least (times-are ∙ sym symmetry) ∙ sym (cond-true (Least (rotationSymmetry c)) Lesser least)

@@ -1,2 +1,3 @@
 -- What the functions of this crate ask and answer.
+pub mod RotationTest
 pub mod Climbs

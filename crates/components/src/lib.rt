@@ -6,19 +6,12 @@ use trees::at_most;
 use trees::count;
 use trees::last_branch;
 use trees::leading;
-use trees::not_greater;
 use trees::valid_trees;
 ghost use denote.Ref.{now};
 ghost use mathlib.Core.Path.{_≡_};
-ghost use mathlib.Core.Bool.{true};
-ghost use mathlib.Core.List.{_++_};
-ghost use Prim.Native.Nat.{_≤_, compare as compareNumbers};
-ghost use lib.ListN.{length, take, drop};
-ghost use Rattle.lists.specs.Order.{lex, atMost};
-ghost use Rattle.lists.specs.Select.{each};
-ghost use Rattle.lists.specs.Blocks.{orderingOf};
-ghost use Rattle.patterns.specs.Component.{Component, flat, compareComponent, rotations, validComponent};
+ghost use Rattle.patterns.specs.Component.{Component, flat, validComponent};
 ghost use Rattle.memory.specs.Memory.{Held};
+ghost use Rattle.components.specs.RotationTest.{rotationTest};
 ghost use Rattle.components.specs.Climbs.{HeldBeside, HeldMerge, Climbed};
 ghost use Rattle.components.specs.declared.Climb.the-variants.{Key};
 
@@ -28,29 +21,22 @@ pub enum Climb {
     Key(usize),
 }
 
-// Where `s` stands against `s` turned to begin at `p`.
-pub fn compare_turned(s: &[u8], p: usize) -> Order
-    requires { ⌜ p ≤ length (now s) ⌝ }
-    ensures { λ r. ⌜ orderingOf r ≡ lex compareNumbers (now (s .entry)) (drop p (now (s .entry)) ++ take p (now (s .entry))) ⌝ }
-{
-    let n = s.len();
-    let q = n - p;
-    match compare(&s[..q], &s[p..n]) {
-        Order::Less => Order::Less,
-        Order::Greater => Order::Greater,
-        Order::Equal => compare(&s[q..n], &s[..p]),
-    }
+// What the test of a component's rotations answers: none is less and so many of them equal it [document 02, paper 6: turns], or one is less.
+pub enum Rotation {
+    Least(usize),
+    Lesser,
 }
 
-// No rotation is less [document 004, Definition 2]. One pass: the trees so far are a prenecklace, that is, a beginning of a power of the trees in their
-// first `period` points. The next tree is held against the tree one period before: if it is less, a rotation is less; if it is greater, all trees so
-// far are the period. At the end the power may be cut off, so the rotation by one period is tested.
-pub fn has_least_rotation(s: &[u8]) -> bool
+// No rotation is less [document 004, Definition 2], and how many equal the component. One pass: the trees so far are a prenecklace, that is, a beginning of a
+// power of the trees in their first `period` points. The next tree is held against the tree one period before: if it is less, a rotation is less; if it is
+// greater, all trees so far are the period. At the end the power is whole, and then the component equals itself turned by any number of periods; or it is
+// cut off, and then the rotation by one period is less.
+pub fn least_rotation(s: &[u8]) -> Rotation
     requires { ⌜ Held (now s) ⌝ }
-    ensures { λ r. ⌜ ((c : Component) → now (s .entry) ≡ flat c → r ≡ each (atMost compareComponent c) (rotations c)) ⌝ }
+    ensures { λ r. ⌜ ((c : Component) → now (s .entry) ≡ flat c → r ≡ rotationTest c) ⌝ }
 {
     if s.len() == 0 {
-        return true;
+        return Rotation::Least(0);
     }
     let mut period = s[0] as usize;
     let mut at = period;
@@ -59,13 +45,17 @@ pub fn has_least_rotation(s: &[u8]) -> bool
         let old = back + s[back] as usize;
         let end = at + s[at] as usize;
         match compare(&s[back..old], &s[at..end]) {
-            Order::Greater => return false,
+            Order::Greater => return Rotation::Lesser,
             Order::Less => period = end,
             Order::Equal => {}
         }
         at = end;
     }
-    not_greater(compare_turned(s, period))
+    if s.len() % period != 0 {
+        return Rotation::Lesser;
+    }
+    let turns = s.len() / period;
+    Rotation::Least(turns)
 }
 
 // The component is a valid code [document 004, Definition 2].
@@ -79,7 +69,10 @@ pub fn valid_component(s: &[u8]) -> bool
     if !valid_trees(s) {
         return false;
     }
-    has_least_rotation(s)
+    match least_rotation(s) {
+        Rotation::Least(_) => true,
+        Rotation::Lesser => false,
+    }
 }
 
 // The component becomes its parent [document 004, Lemma 8]: behind `h` points stands the first tree of more points, and its two parts take its place, the lesser

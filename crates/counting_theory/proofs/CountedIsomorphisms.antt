@@ -24,7 +24,7 @@ use Rattle.map_theory.specs.Plants.{Plant, tip, join, shape, root, inner, label
 use Rattle.map_theory.proofs.Pictures.{allLabels, Picture}
 use Rattle.map_theory.proofs.Cycles.{cycle-from}
 use Rattle.map_theory.proofs.Placed.{component-roots-nodup, component-fits, root-on, inner-off}
-use Rattle.map_theory.proofs.Ordered.{canonical-valid}
+use Rattle.component_theory.proofs.CanonicalComponents.{canonical-valid}
 use Rattle.map_theory.proofs.Shown.{tree-fits, picture-weight, top-placed}
 use Rattle.map_theory.proofs.Leaders.{in-cycle-start, cycle-turn, leaders-nodup, cycles-perm}
 use Rattle.map_theory.proofs.Levels.{levels-perm, cycles-level}

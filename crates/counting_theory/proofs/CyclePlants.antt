@@ -13,7 +13,7 @@ use Rattle.lists.proofs.Members.{in-head, in-tail, in-list, in-map, of-map, in-
 use Rattle.lists.proofs.Gathering.{map-same}
 use Rattle.lists.proofs.Pigeon.{nodup-below-length}
 use Rattle.patterns.specs.Tree.{Tree, validTree}
-use Rattle.patterns.specs.Component.{Component, compareComponent, turns, rotations, leastRotation, validComponent}
+use Rattle.patterns.specs.Component.{Component, compareComponent, firstRotations, rotations, rotationSymmetry, leastRotation, validComponent}
 use Rattle.patterns.specs.Table.{onCycle, hanging, treeAt, cycleFrom, componentAt}
 use Rattle.patterns.proofs.Trees.{compareComponent-lawful}
 use Rattle.patterns.proofs.Rotations.{rotated-of-rotation, leastRotation-rotation, leastRotation-same, valid-leastRotation}
@@ -21,7 +21,7 @@ use Rattle.map_theory.specs.Plants.{Plant, shape, root}
 use Rattle.map_theory.proofs.Cycles.{cycle-from}
 use Rattle.map_theory.proofs.Leaders.{cycle-nodup, cycle-turn, cycle-onCycle, cycle-perm, cycle-inside}
 use Rattle.map_theory.proofs.Levels.{of-hanging, hanging-nodup}
-use Rattle.counting_theory.specs.Symmetries.{product, treeSymmetries, rotationSymmetry}
+use Rattle.counting_theory.specs.Symmetries.{product, treeSymmetries}
 use Rattle.counting_theory.proofs.Exactly.{Exactly, exactly-one, exactly-pairs}
 use Rattle.counting_theory.proofs.WholePlants.{Whole, whole-tree}
 use Rattle.counting_theory.proofs.StandingPlants.{Stands, hanging-branches, exactly-standing}
@@ -106,7 +106,7 @@ module _ (n : ℕ) (f : ℕ → ℕ) (inside : (x : ℕ) → x < n → f x < n) 
 
   -- they are turned from point to point: here from the points of b, where the cycle is a and then b
   trees-turned : (l : ℕ) → l < n → onCycle n f l ≡ true → (a b : List ℕ) → cycleFrom n f l ≡ a ++ b
-      → map treesFrom b ≡ turns (length b) (map (treeAt n f) (b ++ a))
+      → map treesFrom b ≡ firstRotations (length b) (map (treeAt n f) (b ++ a))
   trees-turned l h on a [] e = refl
   trees-turned l h on a (x ∷ b) e =
       let g : ℕ → Tree = treeAt n f in
@@ -114,7 +114,7 @@ module _ (n : ℕ) (f : ℕ → ℕ) (inside : (x : ℕ) → x < n → f x < n) 
       ap₂ _∷_
       (ap (map g) (cycle-from n f (cycleFrom n f l) (cycle-turn n f l on) (cycle-nodup n f l on) fits a b x e))
       (trees-turned l h on (a ++ (x ∷ [])) b (e ∙ sym (append-assoc a (x ∷ []) b))
-      ∙ ap (turns (length b)) (ap (map g) (sym (append-assoc b a (x ∷ []))) ∙ map-append g (b ++ a) (x ∷ [])))
+      ∙ ap (firstRotations (length b)) (ap (map g) (sym (append-assoc b a (x ∷ []))) ∙ map-append g (b ++ a) (x ∷ [])))
 
   -- the trees of a cycle, read from each of its points
   pub trees-rotations : (l : ℕ) → l < n → onCycle n f l ≡ true
@@ -122,7 +122,7 @@ module _ (n : ℕ) (f : ℕ → ℕ) (inside : (x : ℕ) → x < n → f x < n) 
   trees-rotations l h on =
       let c = cycleFrom n f l in
       trees-turned l h on [] c refl
-      ∙ ap₂ (λ k d. turns k (map (treeAt n f) d)) (sym (length-map c (treeAt n f))) (append-nil c)
+      ∙ ap₂ (λ k d. firstRotations k (map (treeAt n f) d)) (sym (length-map c (treeAt n f))) (append-nil c)
 
   -- where they read as a valid component, it is the component of the cycle
   pub component-of : (l : ℕ) → l < n → onCycle n f l ≡ true → (c : Component) (x : ℕ) → validComponent c ≡ true → x ∈ cycleFrom n f l

@@ -13,14 +13,14 @@ use Rattle.lists.proofs.Comparison.{same-true, same-self, compare-lawful}
 use Rattle.lists.proofs.Permute.{Perm, total-same, total-scale, length-keep, total-map, total-gather, perm-refl, perm-path, perm-sym, perm-trans, perm-tail, perm-front, perm-cancel, perm-append, perm-length, perm-member, perm-map, perm-gather}
 use Rattle.lists.proofs.Members.{NoDup, in-head, in-tail, in-list, in-cons-cases, in-append-left, not-in-nil, of-gather, nodup-tail, nodup-gather}
 use Rattle.lists.proofs.Gathering.{map-injective, perm-nodup}
-use Rattle.patterns.specs.Component.{Component, compareComponent, validComponent}
+use Rattle.patterns.specs.Component.{Component, compareComponent, rotationSymmetry, validComponent}
 use Rattle.patterns.specs.System.{System}
 use Rattle.patterns.specs.Table.{onCycle, treeAt, cycleFrom, componentAt, leaders}
 use Rattle.patterns.proofs.Trees.{compareComponent-lawful}
 use Rattle.patterns.proofs.Rotations.{valid-trees}
 use Rattle.map_theory.specs.Plants.{Plant, shape, root, shapes}
 use Rattle.map_theory.proofs.Leaders.{cycle-nodup, in-cycle-start, cycle-trans, cycle-perm, one-leader, of-leaders, leader-onCycle, cycle-inside}
-use Rattle.counting_theory.specs.Symmetries.{copies, product, treeSymmetries, rotationSymmetry, componentSymmetries, symmetries}
+use Rattle.counting_theory.specs.Symmetries.{copies, product, treeSymmetries, componentSymmetries, symmetries}
 use Rattle.counting_theory.proofs.Exactly.{Exactly, exactly-as, exactly-same, exactly-one, exactly-keep, exactly-pairs}
 use Rattle.counting_theory.proofs.WholePlants.{Whole}
 use Rattle.counting_theory.proofs.CyclePlants.{Along, exactly-along, along-trees, component-of, starts-number}

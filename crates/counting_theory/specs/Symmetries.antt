@@ -7,7 +7,7 @@ use lib.ListN.{length}
 use Rattle.lists.specs.Order.{same}
 use Rattle.lists.specs.Select.{keep, total}
 use Rattle.patterns.specs.Tree.{Tree, point, merge, branches, compareTree}
-use Rattle.patterns.specs.Component.{Component, compareComponent, rotations}
+use Rattle.patterns.specs.Component.{Component, compareComponent, rotationSymmetry}
 use Rattle.patterns.specs.System.{System, compareSystem}
 use Rattle.patterns.specs.Table.{systemOfTable}
 use Rattle.patterns.specs.Isomorphism.{tables}
@@ -31,11 +31,6 @@ unfoldable pub treeSymmetries : Tree → ℕ
 unfolding compareTree
 treeSymmetries point = 1
 treeSymmetries (merge t u) = (suc (copies compareTree u (branches t)) * treeSymmetries u) * treeSymmetries t
-
--- how many rotations of a component equal it [document 02, paper 6: turns]
-unfoldable pub rotationSymmetry : Component → ℕ
-unfolding compareComponent
-rotationSymmetry c = length (keep (same compareComponent c) (rotations c))
 
 unfoldable pub componentSymmetries : Component → ℕ
 unfolding rotationSymmetry treeSymmetries

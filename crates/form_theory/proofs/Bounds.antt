@@ -7,7 +7,7 @@ use native.Mathlib.Omega.{arith}
 use lib.Dec.{ltb}
 use lib.ListN.{length, take, drop, getD, length-append, take-append-drop}
 use borrow.Author.Tests.{lt-ltb, ltb-true}
-use Rattle.lists.specs.Select.{each, gather, total}
+use Rattle.lists.specs.Select.{each, gather}
 use Rattle.lists.proofs.Tests.{each-cons, each-head, each-tail}
 use Rattle.lists.proofs.Members.{gather-append}
 
@@ -33,11 +33,7 @@ pub below-at : (k : ℕ) (l : List ℕ) → ((i : ℕ) → i < length l → getD
 below-at k [] h = refl
 below-at k (x ∷ l) h = below-cons k x l (h 0 (omega arith)) (below-at k l (λ i g. h (suc i) (omega arith)))
 
-pub length-gather : {A B : Type 0} (f : A → List B) (l : List A) → length (gather f l) ≡ total (λ x. length (f x)) l
-length-gather f [] = refl
-length-gather f (x ∷ l) = rw (length-append, length-gather f l)
-
--- the first of them are no longer than all
+-- what the first entries give is no longer than what all give
 pub gather-within : {A B : Type 0} (f : A → List B) (i : ℕ) (l : List A) → length (gather f (take i l)) ≤ length (gather f l)
 gather-within f i l =
     let cut : gather f l ≡ gather f (take i l) ++ gather f (drop i l) = ap (gather f) (sym (take-append-drop i l)) ∙ gather-append f (take i l) (drop i l) in

@@ -9,16 +9,17 @@ use lib.ListN.{length, drop, length-append, drop-of-length-le}
 use lib.Seq.{drop-at}
 use borrow.Author.Tests.{le-ltb, ltb-false, eq-eqb, ne-eqb}
 use Rattle.lists.specs.Select.{each, gather, total}
-use Rattle.lists.specs.Order.{atMost}
-use Rattle.lists.proofs.Tests.{choose-case, each-cons, each-head, each-tail, and-true}
-use Rattle.patterns.specs.Tree.{Tree, size, below, code, branches, validTree}
-use Rattle.patterns.specs.Component.{Component, points, flat, nonempty, rotations, compareComponent, validComponent}
-use Rattle.patterns.specs.System.{System, weight, compareGenerated, inOrder, canonical}
+use Rattle.lists.proofs.Tests.{choose-case, each-true, each-member, each-head, each-tail}
+use Rattle.patterns.specs.Tree.{Tree, size, below, code, branches}
+use Rattle.patterns.specs.Component.{Component, points, flat, nonempty, validComponent}
+use Rattle.patterns.specs.System.{System, weight, canonical}
 use Rattle.patterns.specs.Written.{componentNumbers, numbers}
 use Rattle.patterns.specs.Reading.{done, readTree, readBranches, readTrees, readComponents, finished, readBody, readSystem}
 use Rattle.form_theory.proofs.Results.{Good, good-weaken, good-then}
 use Rattle.form_theory.proofs.ReadFrom.{ComponentsOf, components-good}
 use Rattle.patterns.proofs.Trees.{size-positive, length-code, length-flat, below-branches, size-branches, graft-branches}
+use Rattle.patterns.proofs.Rotations.{valid-nonempty}
+use Rattle.component_theory.proofs.CanonicalComponents.{canonical-valid}
 
 total-branches : (t : Tree) → total size (branches t) ≡ size t - 1
 total-branches t = omega (arith, size-branches t)
@@ -101,19 +102,9 @@ pub length-components : (S : System) → length (gather componentNumbers S) ≡ 
 length-components [] = refl
 length-components (c ∷ S) = omega (arith, length-append (flat c) (gather componentNumbers S), length-flat c, length-components S)
 
-in-order-nonempty : (p : Component) (S : System) → inOrder p S ≡ true → each nonempty S ≡ true
-unfolding inOrder validComponent
-in-order-nonempty p [] h = refl
-in-order-nonempty p (c ∷ S) h =
-    let a = and-true (validComponent c && atMost compareGenerated p c) (inOrder c S) h in
-    let v = (and-true (validComponent c) (atMost compareGenerated p c) (a .0)) .0 in
-    let w = (and-true (nonempty c && each validTree c) (each (atMost compareComponent c) (rotations c)) v) .0 in
-    each-cons nonempty {x = c} S ((and-true (nonempty c) (each validTree c) w) .0) (in-order-nonempty c S (a .1))
-
 -- each component of a canonical system has a tree
 pub canonical-nonempty : (S : System) → canonical S ≡ true → each nonempty S ≡ true
-unfolding canonical
-canonical-nonempty S h = in-order-nonempty [] S h
+canonical-nonempty S h = each-true nonempty S (λ c m. valid-nonempty c (each-member validComponent (canonical-valid S h) m))
 
 no-points : (S : System) → (eqb (length S) 0 && ltb 0 (weight S)) ≡ false
 no-points [] = refl

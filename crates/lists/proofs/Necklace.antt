@@ -184,7 +184,7 @@ module _ {A : Type 0} {c : A → A → Ordering} (w : Lawful c) {p : ℕ} {a : L
         ∙ lex-cons-gt c (y .letter) x (y .later ++ (x ∷ e)) (e ++ z) o
 
   -- where the rotation that begins after the period is not less, it is the word itself
-  turned-same : atMost (lex c) a (drop p a ++ take p a) ≡ true → drop p a ++ take p a ≡ a
+  pub turned-same : atMost (lex c) a (drop p a ++ take p a) ≡ true → drop p a ++ take p a ≡ a
   turned-same h =
       let u = take p a in
       let b = drop p a in
@@ -213,15 +213,16 @@ module _ {A : Type 0} {c : A → A → Ordering} (w : Lawful c) {p : ℕ} {a : L
       (sym (ap (drop i) (sym q) ∙ drop-append-le i b u within))
       (sym (ap (take i) (sym q) ∙ take-append-le i b u within))
 
+  -- a rotation that begins inside of the period is greater
+  pub turned-greater : (j : ℕ) → 0 < j → j < p → lex c a (drop j a ++ take j a) ≡ Ordering·lt
+  turned-greater j h k =
+      let g = s .greater j h k in
+      ap (λ l. lex c l (drop j a ++ take j a)) (sym (append-nil a)) ∙ upTo-lex c a (drop j a) [] (take j a) (λ q. lt-not-eq g q) ∙ g
+
   -- no rotation is less, in the same two parts
   least-inside : (j : ℕ) → j < p → atMost (lex c) a (drop j a ++ take j a) ≡ true
   least-inside zero k = eq-atMost (lex-lawful w) (sym (append-nil a))
-  least-inside (suc j) k =
-      let g = s .greater (suc j) (omega arith) k in
-      ap isLe
-      (ap (λ l. lex c l (drop (suc j) a ++ take (suc j) a)) (sym (append-nil a))
-      ∙ upTo-lex c a (drop (suc j) a) [] (take (suc j) a) (λ q. lt-not-eq g q)
-      ∙ g)
+  least-inside (suc j) k = ap isLe (turned-greater (suc j) (omega arith) k)
 
   least-turned : drop p a ++ take p a ≡ a → (n j : ℕ) → j ≤ n → j ≤ length a → atMost (lex c) a (drop j a ++ take j a) ≡ true
   least-turned q zero j k h = least-inside j (omega (arith, s .positive))

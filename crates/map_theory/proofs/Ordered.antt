@@ -1,4 +1,4 @@
--- The components of a canonical system are valid and stand in order, and sorting a permutation of them gives the system.
+-- The components of a canonical system stand in order, and sorting a permutation of them gives the system.
 use mathlib.Core.Path.{_≡_, refl, ap, ap₂, sym, _∙_}
 use mathlib.Core.List.{List, [], _∷_, map}
 use mathlib.Core.Bool.{true, _&&_}
@@ -6,14 +6,14 @@ use Prim.Native.Nat.{ℕ, Ordering, compare}
 use lib.Dec.{isLe}
 use Rattle.lists.specs.Order.{then, atMost}
 use Rattle.lists.specs.Sort.{sort}
-use Rattle.lists.specs.Select.{each}
-use Rattle.lists.proofs.Tests.{and-true, each-cons, each-member}
+use Rattle.lists.proofs.Tests.{and-true, each-member}
 use Rattle.lists.proofs.Comparison.{Lawful, compare-lawful, keys-lawful}
 use Rattle.lists.proofs.Permute.{Perm, perm-sym, perm-map, perm-each}
 use Rattle.lists.proofs.Sorting.{Sorted, sorted-nil, sorted-one, sorted-before, sort-map, sort-is, sort-member}
 use Rattle.patterns.specs.Component.{Component, points, validComponent}
 use Rattle.patterns.specs.System.{System, generationPlace, compareGenerated, inOrder, canonical}
 use Rattle.component_theory.proofs.Paths.{generated-equal}
+use Rattle.component_theory.proofs.CanonicalComponents.{canonical-valid}
 use Rattle.lists.proofs.Gathering.{map-injective}
 
 -- the two numbers by which components are compared
@@ -38,14 +38,6 @@ pub key-injective : (c d : Component) → validComponent c ≡ true → validCom
 key-injective c d v w e =
     generated-equal c d v w (sym (compareGenerated-key c d) ∙ ap (compareKey (key c)) (sym e) ∙ compareKey-lawful .self (key c))
 
-inOrder-valid : (p : Component) (S : System) → inOrder p S ≡ true → each validComponent S ≡ true
-unfolding inOrder
-inOrder-valid p [] e = refl
-inOrder-valid p (c ∷ S) e =
-    let r = and-true (validComponent c && atMost compareGenerated p c) (inOrder c S) e in
-    let s = and-true (validComponent c) (atMost compareGenerated p c) (r .0) in
-    each-cons validComponent {x = c} S (s .0) (inOrder-valid c S (r .1))
-
 inOrder-sorted : (p : Component) (S : System) → inOrder p S ≡ true → Sorted compareKey (map key (p ∷ S))
 unfolding inOrder
 inOrder-sorted p [] e = sorted-one (key p)
@@ -54,12 +46,7 @@ inOrder-sorted p (c ∷ S) e =
     let s = and-true (validComponent c) (atMost compareGenerated p c) (r .0) in
     sorted-before compareKey-lawful (ap isLe (compareGenerated-key p c) ∙ s .1) (inOrder-sorted c S (r .1))
 
--- the components of a canonical system are valid
-pub canonical-valid : (S : System) → canonical S ≡ true → each validComponent S ≡ true
-unfolding canonical
-canonical-valid S e = inOrder-valid [] S e
-
--- and stand in order
+-- the components of a canonical system stand in order
 pub canonical-sorted : (S : System) → canonical S ≡ true → Sorted compareKey (map key S)
 unfolding canonical
 canonical-sorted [] e = sorted-nil

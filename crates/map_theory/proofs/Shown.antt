@@ -21,7 +21,8 @@ use Rattle.lists.proofs.Gathering.{map-same, map-gather, keep-gather, gather-si
 use Rattle.map_theory.proofs.Pictures.{Plant, shape, root, labels, allLabels, shapes, Picture}
 use Rattle.map_theory.proofs.Cycles.{cycle-from, leads-least, least-leads}
 use Rattle.map_theory.proofs.Plants.{length-inner}
-use Rattle.map_theory.proofs.Ordered.{canonical-valid, sort-canonical}
+use Rattle.component_theory.proofs.CanonicalComponents.{canonical-valid}
+use Rattle.map_theory.proofs.Ordered.{sort-canonical}
 use Rattle.map_theory.proofs.Placed.{root-label, component-nodup, component-roots-nodup, component-fits, inner-off, hanging-inside, Placed, placed-tree, placed-at}
 
 -- a component has as many labels as its shape has points, and a picture as many as its shapes

@@ -11,7 +11,7 @@ use Rattle.patterns.specs.Table.{image, isTable, hanging, treeAt, systemOf, sys
 use Rattle.patterns.specs.MapOf.{mapOf}
 use Rattle.patterns.specs.Isomorphism.{Isomorphism}
 use Rattle.map_theory.proofs.Pictures.{Plant, allLabels, shapes, Picture}
-use Rattle.map_theory.proofs.Ordered.{canonical-valid}
+use Rattle.component_theory.proofs.CanonicalComponents.{canonical-valid}
 use Rattle.map_theory.proofs.Shown.{picture-weight, tree-equation-shown, system-shown}
 use Rattle.map_theory.proofs.MapOf.{numberedSystem, numberedSystem-shapes, length-mapOf, mapOf-table, mapOf-picture}
 use Rattle.map_theory.proofs.Isomorphisms.{table-below, isomorphism-compose, inverse, isomorphism-inverse}

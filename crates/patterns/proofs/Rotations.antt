@@ -13,7 +13,7 @@ use Rattle.lists.proofs.Comparison.{atMost-self, atMost-trans, atMost-anti, atM
 use Rattle.lists.proofs.Permute.{Perm, perm-append-comm, perm-path, perm-trans, perm-length, perm-each-same}
 use Rattle.lists.proofs.Members.{in-head, in-tail, in-list, in-moved, not-in-nil, in-cons-cases}
 use Rattle.patterns.specs.Tree.{validTree}
-use Rattle.patterns.specs.Component.{Component, compareComponent, turns, rotations, lesser, least, leastRotation, nonempty, points, validComponent}
+use Rattle.patterns.specs.Component.{Component, compareComponent, firstRotations, rotations, lesser, least, leastRotation, nonempty, points, validComponent}
 use Rattle.patterns.proofs.Trees.{size-positive, compareComponent-lawful}
 
 -- two ways to cut a list: one cut is not after the other
@@ -68,19 +68,19 @@ module _ {A : Type 0} where
   rotated-nonempty {c = x ∷ c} {r = []} h e = absurd (omega (arith, perm-length (rotated-perm h)))
   rotated-nonempty {c = x ∷ c} {r = y ∷ r} h e = refl
 
-  turns-split : (a b : List A) (x : A) (k : ℕ) → length a < k → ((x ∷ b) ++ a) ∈ turns k (a ++ (x ∷ b))
-  turns-split [] b x zero h = absurd (omega arith)
-  turns-split [] b x (suc k) h = List·Memᴰ·head (append-nil (x ∷ b))
-  turns-split (y ∷ a) b x zero h = absurd (omega arith)
-  turns-split (y ∷ a) b x (suc k) h =
+  first-split : (a b : List A) (x : A) (k : ℕ) → length a < k → ((x ∷ b) ++ a) ∈ firstRotations k (a ++ (x ∷ b))
+  first-split [] b x zero h = absurd (omega arith)
+  first-split [] b x (suc k) h = List·Memᴰ·head (append-nil (x ∷ b))
+  first-split (y ∷ a) b x zero h = absurd (omega arith)
+  first-split (y ∷ a) b x (suc k) h =
       in-tail
       (in-moved (ap (λ l. x ∷ l) (append-assoc b (y ∷ []) a))
-      (in-list (ap (turns k) (sym (append-assoc a (x ∷ b) (y ∷ []))))
-      (turns-split a (b ++ (y ∷ [])) x k (omega arith))))
+      (in-list (ap (firstRotations k) (sym (append-assoc a (x ∷ b) (y ∷ []))))
+      (first-split a (b ++ (y ∷ [])) x k (omega arith))))
 
   -- the rotations of a list are its cuts, the second part first
   pub rotation-of-split : (a b : List A) (x : A) → ((x ∷ b) ++ a) ∈ rotations (a ++ (x ∷ b))
-  rotation-of-split a b x = turns-split a b x (length (a ++ (x ∷ b))) (omega (arith, length-append a (x ∷ b)))
+  rotation-of-split a b x = first-split a b x (length (a ++ (x ∷ b))) (omega (arith, length-append a (x ∷ b)))
 
   pub rotation-self : (c : List A) → nonempty c ≡ true → c ∈ rotations c
   rotation-self [] e = absurd (true≢false (sym e))
@@ -94,18 +94,18 @@ module _ {A : Type 0} where
   rotation-of-rotated h e =
       in-moved (sym (h .joined)) (in-list (ap rotations (sym (h .cut))) (rotation-append (h .front) (h .back) (ap nonempty (sym (h .cut)) ∙ e)))
 
-  turns-rotated : (a b : List A) (k : ℕ) {r : List A} → k ≤ length b → r ∈ turns k (b ++ a) → Rotated (a ++ b) r
-  turns-rotated a b zero h m = not-in-nil m
-  turns-rotated a [] (suc k) h m = absurd (omega arith)
-  turns-rotated a (x ∷ b) (suc k) {r} h m =
+  first-rotated : (a b : List A) (k : ℕ) {r : List A} → k ≤ length b → r ∈ firstRotations k (b ++ a) → Rotated (a ++ b) r
+  first-rotated a b zero h m = not-in-nil m
+  first-rotated a [] (suc k) h m = absurd (omega arith)
+  first-rotated a (x ∷ b) (suc k) {r} h m =
       either (in-cons-cases m)
       (λ q. record { front = a; back = x ∷ b; cut = refl; joined = q })
       (λ i.
-      let s = turns-rotated (a ++ (x ∷ [])) b k {r = r} (omega arith) (in-list (ap (turns k) (append-assoc b a (x ∷ []))) i) in
+      let s = first-rotated (a ++ (x ∷ [])) b k {r = r} (omega arith) (in-list (ap (firstRotations k) (append-assoc b a (x ∷ []))) i) in
       record { front = s .front; back = s .back; cut = sym (append-assoc a (x ∷ []) b) ∙ s .cut; joined = s .joined })
 
   pub rotated-of-rotation : {c r : List A} → r ∈ rotations c → Rotated c r
-  rotated-of-rotation {c} {r} m = turns-rotated [] c (length c) (omega arith) (in-list (ap (turns (length c)) (sym (append-nil c))) m)
+  rotated-of-rotation {c} {r} m = first-rotated [] c (length c) (omega arith) (in-list (ap (firstRotations (length c)) (sym (append-nil c))) m)
 
   pub split-of-rotation : {c r : List A} → r ∈ rotations c → (a : List A) × (b : List A) × (c ≡ a ++ b) × (r ≡ b ++ a)
   split-of-rotation m = let h = rotated-of-rotation m in (h .front, h .back, h .cut, h .joined)

@@ -3,8 +3,8 @@ use mathlib.Core.Bool.{Bool, true, false, cond, _&&_}
 use mathlib.Core.List.{List, [], _∷_, _++_}
 use Prim.Native.Nat.{ℕ, zero, suc, Ordering}
 use lib.ListN.{length}
-use Rattle.lists.specs.Order.{lex, atMost}
-use Rattle.lists.specs.Select.{each, gather, total}
+use Rattle.lists.specs.Order.{lex, atMost, same}
+use Rattle.lists.specs.Select.{keep, each, gather, total}
 use Rattle.patterns.specs.Tree.{Tree, size, code, compareTree, validTree}
 
 -- the trees along the cycle
@@ -30,12 +30,17 @@ turn [] = []
 turn (t ∷ ts) = ts ++ (t ∷ [])
 
 -- c, turned once, .., k lists in all
-abbrev pub turns : {A : Type 0} → ℕ → List A → List (List A)
-turns zero c = []
-turns (suc k) c = c ∷ turns k (turn c)
+abbrev pub firstRotations : {A : Type 0} → ℕ → List A → List (List A)
+firstRotations zero c = []
+firstRotations (suc k) c = c ∷ firstRotations k (turn c)
 
 abbrev pub rotations : {A : Type 0} → List A → List (List A)
-rotations c = turns (length c) c
+rotations c = firstRotations (length c) c
+
+-- how many of its rotations equal a component [document 02, paper 6: turns]
+unfoldable pub rotationSymmetry : Component → ℕ
+unfolding compareComponent
+rotationSymmetry c = length (keep (same compareComponent c) (rotations c))
 
 -- the lesser of two, the first where they are equal
 unfoldable pub lesser : Component → Component → Component

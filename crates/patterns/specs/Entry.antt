@@ -2,16 +2,17 @@
 use denote.Ref.{RefT, ptr, now}
 use mathlib.Core.Path.{_≡_}
 use mathlib.Core.Bool.{cond}
-use mathlib.Core.List.{List, _++_, map}
+use mathlib.Core.List.{List, [], _++_, map}
 use mathlib.Core.Option.{Option, none, some}
 use Prim.Native.Nat.{ℕ, _+_, _-_}
 use lib.Dec.{leb, ltb}
-use lib.ListN.{length, take, drop}
+use lib.ListN.{length, getD, take, drop}
 use Rattle.lists.specs.Select.{first, next}
 use Rattle.patterns.specs.declared.Refusal.{Refusal}
 use Rattle.patterns.specs.declared.Refusal.the-variants.{Count, Image, Room, Position}
+use Rattle.patterns.specs.Component.{rotationSymmetry}
 use Rattle.patterns.specs.System.{System, weight, codes, compareSystem}
-use Rattle.patterns.specs.Written.{written, startOf}
+use Rattle.patterns.specs.Written.{written, stretchOf}
 use Rattle.patterns.specs.Reading.{Result, done, fault, andThen, accepted}
 use Rattle.patterns.specs.Table.{image, isTable, systemOfTable}
 use Rattle.patterns.specs.MapOf.{mapOf}
@@ -155,18 +156,28 @@ heightOf f = answer (checkedTable f) (λ f. length-is (height (length f) (image 
 abbrev pub longestOf : List ℕ → Answer
 longestOf f = answer (checkedTable f) (λ f. length-is (longestCycle (length f) (image f)))
 
--- where the bytes of the component at position i begin and end in the code of S
-abbrev pub componentIn : System → ℕ → Result (ℕ × ℕ)
-componentIn S i = cond (ltb i (length S)) (done (startOf S i, startOf S (i + 1))) (fault Position)
+-- The part of a code that shows a component: where its bytes begin and end, and how many of the component's rotations equal it [document 02, paper 6].
+pub record Part : Type 0 where
+  pub start : ℕ
+  pub end : ℕ
+  pub turns : ℕ
+
+-- that of the component at position i in the code of S
+unfoldable pub partIn : System → ℕ → Part
+unfolding stretchOf rotationSymmetry
+partIn S i = record { start = (stretchOf S i) .0; end = (stretchOf S i) .1; turns = rotationSymmetry (getD S i []) }
+
+abbrev pub componentIn : System → ℕ → Result Part
+componentIn S i = cond (ltb i (length S)) (done (partIn S i)) (fault Position)
 
 -- Entry "component reader": the same for a written code
-unfoldable pub componentOf : List ℕ → ℕ → Result (ℕ × ℕ)
-unfolding accepted startOf
+unfoldable pub componentOf : List ℕ → ℕ → Result Part
+unfolding accepted partIn
 componentOf b i = andThen (accepted b) (λ S. componentIn S i)
 
 -- the reply of that entry
-abbrev pub partAnswered : Result (ℕ × ℕ) → PartAnswer
-partAnswered (done place) = part-is (place .0) (place .1)
+abbrev pub partAnswered : Result Part → PartAnswer
+partAnswered (done part) = part-is (part .start) (part .end) (part .turns)
 partAnswered (fault c) = part-refused (numberOf c)
 
 -- part is the part of code from start to end: those bytes, and in the very place in memory where they stand in code
@@ -176,6 +187,6 @@ pub record PartOf (code : RefT (List ℕ)) (start end : ℕ) (part : RefT (List 
   pub place : ptr part .1 ≡ ptr code .1 + start
 
 -- what that entry shows: the component's part of the code, and where there is a refusal a part of no bytes
-abbrev pub Shown : RefT (List ℕ) → Result (ℕ × ℕ) → RefT (List ℕ) → Type 0
-Shown code (done place) part = PartOf code (place .0) (place .1) part
+abbrev pub Shown : RefT (List ℕ) → Result Part → RefT (List ℕ) → Type 0
+Shown code (done place) part = PartOf code (place .start) (place .end) part
 Shown code (fault c) part = PartOf code 0 0 part

@@ -52,9 +52,9 @@ pub data PageAnswer : Type 0 where
   page-is : ℕ → ℕ → PageAnswer
   page-refused : ℕ → PageAnswer
 
--- where the component's bytes begin and end in the code, or a refusal with its number
+-- where the component's bytes begin and end in the code and how many of its rotations equal it, or a refusal with its number
 pub data PartAnswer : Type 0 where
-  part-is : ℕ → ℕ → PartAnswer
+  part-is : ℕ → ℕ → ℕ → PartAnswer
   part-refused : ℕ → PartAnswer
 
 -- what each case of a reply says
@@ -86,7 +86,7 @@ censusAnswer (Counted rows height longest) = census-is rows height longest
 censusAnswer (NotCounted c) = census-refused (numberOf c)
 
 abbrev pub partAnswer : Stretch → PartAnswer
-partAnswer (Part start end) = part-is start end
+partAnswer (Part start end turns) = part-is start end turns
 partAnswer (NoPart c) = part-refused (numberOf c)
 
 -- what a struct of the lent list of rows says

@@ -50,9 +50,12 @@ pub record PageReported (found : Result (List System)) (before : List ℕ) (code
   pub bytes-are : bytes ≡ signedOf (pageLength (pageAnswered found before))
   pub output : after ≡ filled (pageFound found) before
 
--- where the bytes of the component at position i begin and end in the code b, or the refusal
+-- where the bytes of the component at position i begin and end in the code b and how many of its rotations equal it, or the refusal
 abbrev pub componentStart : List ℕ → ℕ → Answer
-componentStart b i = answer (componentOf b i) (λ ends. length-is (ends .0))
+componentStart b i = answer (componentOf b i) (λ part. length-is (part .start))
 
 abbrev pub componentEnd : List ℕ → ℕ → Answer
-componentEnd b i = answer (componentOf b i) (λ ends. length-is (ends .1))
+componentEnd b i = answer (componentOf b i) (λ part. length-is (part .end))
+
+abbrev pub componentTurns : List ℕ → ℕ → Answer
+componentTurns b i = answer (componentOf b i) (λ part. length-is (part .turns))

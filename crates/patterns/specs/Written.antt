@@ -1,10 +1,10 @@
 -- The written code: document 01, "The written code".
 use mathlib.Core.Bool.{cond}
 use mathlib.Core.List.{List, [], _∷_}
-use Prim.Native.Nat.{ℕ, _+_, _/_, _%_}
+use Prim.Native.Nat.{ℕ, zero, suc, _+_, _/_, _%_}
 use lib.Dec.{ltb}
-use lib.ListN.{length, take}
-use Rattle.lists.specs.Select.{gather, total}
+use lib.ListN.{length}
+use Rattle.lists.specs.Select.{gather}
 use Rattle.patterns.specs.Component.{Component, flat}
 use Rattle.patterns.specs.System.{System, weight}
 
@@ -26,6 +26,12 @@ bytes xs = gather writeNumber xs
 unfoldable pub written : System → List ℕ
 written S = bytes (numbers S)
 
--- where the bytes of the component at position i begin
-unfoldable pub startOf : System → ℕ → ℕ
-startOf S i = length (bytes (weight S ∷ length S ∷ [])) + total (λ c. length (bytes (componentNumbers c))) (take i S)
+-- where the bytes of the component at position i begin and end, if the first begins at `at`; past the last component nothing stands
+abbrev pub stretchFrom : ℕ → System → ℕ → ℕ × ℕ
+stretchFrom at [] i = (at, at)
+stretchFrom at (c ∷ S) zero = (at, at + length (bytes (componentNumbers c)))
+stretchFrom at (c ∷ S) (suc i) = stretchFrom (at + length (bytes (componentNumbers c))) S i
+
+-- the same in the written code
+unfoldable pub stretchOf : System → ℕ → ℕ × ℕ
+stretchOf S i = stretchFrom (length (bytes (weight S ∷ length S ∷ []))) S i

@@ -46,8 +46,8 @@ pub struct Row {
     pub cycles: u8,
 }
 
-// Where the bytes of a component begin and end in a code, or the cause of a refusal.
+// Where the bytes of a component begin and end in a code and how many of its rotations equal it [document 02, paper 6: turns], or the cause of a refusal.
 pub enum Stretch {
-    Part(usize, usize),
+    Part(usize, usize, usize),
     Refused(Refusal),
 }

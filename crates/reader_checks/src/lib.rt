@@ -10,28 +10,43 @@ const PART: usize = 0;
 
 const REFUSED: usize = 3;
 
+// An answer as a case has it: its kind, the place where the part begins and the component's turns, or the number of the refusal and 0.
+struct Answer {
+    kind: usize,
+    value: usize,
+    turns: usize,
+}
+
 // The case that begins at a place of a text: whether it holds, and where the next one begins.
-struct Turn {
+struct Compared {
     holds: bool,
     next: usize,
 }
 
-// Whether the part begins where the case says, or the cause of the refusal is that of the case.
-fn is_answer(reply: Stretch, kind: usize, value: usize) -> bool {
+// Where the part ends is seen by the bytes that are shown.
+fn answer_of(reply: Stretch) -> Answer {
     match reply {
-        Stretch::Part(start, _) => {
-            if kind != PART {
-                return false;
-            }
-            value == start
-        }
-        Stretch::Refused(cause) => {
-            if kind != REFUSED {
-                return false;
-            }
-            value == numbers::wide(patterns::number(cause))
-        }
+        Stretch::Part(start, _, turns) => Answer {
+            kind: PART,
+            value: start,
+            turns,
+        },
+        Stretch::Refused(cause) => Answer {
+            kind: REFUSED,
+            value: numbers::wide(patterns::number(cause)),
+            turns: 0,
+        },
     }
+}
+
+fn is_answer(given: Answer, expected: Answer) -> bool {
+    if given.kind != expected.kind {
+        return false;
+    }
+    if given.value != expected.value {
+        return false;
+    }
+    given.turns == expected.turns
 }
 
 // Whether the part at a position is exactly `part`.
@@ -48,29 +63,35 @@ fn is_shown(code: &[u8], position: usize, part: List) -> bool {
 }
 
 // Whether the answer at a position is the one of a case, and the part is the list.
-fn answers(code: &[u8], position: usize, kind: usize, value: usize, part: List) -> bool {
-    let reply = component_parts::stretch_of(code, position);
-    if !is_answer(reply, kind, value) {
+fn answers(code: &[u8], position: usize, expected: Answer, part: List) -> bool {
+    let given = answer_of(component_parts::stretch_of(code, position));
+    if !is_answer(given, expected) {
         return false;
     }
     is_shown(code, position, part)
 }
 
-// Whether a case holds: its code, its position, the kind and number of the answer, and the bytes that must be shown.
-fn holds(code: List, position: usize, kind: usize, value: usize, part: List) -> bool {
+// Whether a case holds: its code, its position, the answer, and the bytes that must be shown.
+fn holds(code: List, position: usize, expected: Answer, part: List) -> bool {
     let bytes = code.bytes;
     let len = numbers::within(code.len, &bytes);
-    answers(&bytes[0..len], position, kind, value, part)
+    answers(&bytes[0..len], position, expected, part)
 }
 
-fn run_case(text: &[u8], place: usize) -> Turn {
+fn run_case(text: &[u8], place: usize) -> Compared {
     let code = lists::read(text, place);
     let position = numbers::token(text, code.next);
     let kind = numbers::token(text, position.next);
     let value = numbers::token(text, kind.next);
-    let part = lists::read(text, value.next);
-    Turn {
-        holds: holds(code, position.value, kind.value, value.value, part),
+    let turns = numbers::token(text, value.next);
+    let part = lists::read(text, turns.next);
+    let expected = Answer {
+        kind: kind.value,
+        value: value.value,
+        turns: turns.value,
+    };
+    Compared {
+        holds: holds(code, position.value, expected, part),
         next: part.next,
     }
 }
@@ -81,12 +102,12 @@ fn run_cases(text: &[u8]) -> Score {
     let mut total = 0;
     let mut place = 0;
     while place < text.len() {
-        let turn = run_case(text, place);
-        let next = turn.next;
+        let compared = run_case(text, place);
+        let next = compared.next;
         if next <= place {
             return Score { held: 0, total };
         }
-        held = numbers::counted(held, turn.holds);
+        held = numbers::counted(held, compared.holds);
         total = numbers::counted(total, true);
         place = next;
     }

@@ -1,5 +1,6 @@
 // Where the least rotation of a component begins.
-use components::has_least_rotation;
+use components::Rotation;
+use components::least_rotation;
 use lists::Order;
 use lists::compare;
 use trees::at_most;
@@ -32,14 +33,11 @@ fn at_most_between(s: &[u8], a: usize, b: usize) -> bool
     }
 }
 
-// Where the least rotation of the component begins. One pass where the component is least already.
-pub fn least_start(s: &[u8]) -> usize
+// Where the least rotation of the component begins, of all its beginnings.
+fn least_found(s: &[u8]) -> usize
     requires { ⌜ Held (now s) ⌝ }
     ensures { λ r. ⌜ ((c : Component) → now (s .entry) ≡ flat c → LeastStart c r) ⌝ }
 {
-    if has_least_rotation(s) {
-        return 0;
-    }
     let mut best = 0;
     let mut p = 0;
     while p < s.len() {
@@ -49,4 +47,15 @@ pub fn least_start(s: &[u8]) -> usize
         p += s[p] as usize;
     }
     best
+}
+
+// Where the least rotation of the component begins. One pass where the component is least already.
+pub fn least_start(s: &[u8]) -> usize
+    requires { ⌜ Held (now s) ⌝ }
+    ensures { λ r. ⌜ ((c : Component) → now (s .entry) ≡ flat c → LeastStart c r) ⌝ }
+{
+    match least_rotation(s) {
+        Rotation::Least(_) => 0,
+        Rotation::Lesser => least_found(s),
+    }
 }

@@ -1,2 +1,2 @@
 -- What of a reply its number shows.
-pub mod Ends
+pub mod PartNumbers

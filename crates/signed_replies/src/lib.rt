@@ -12,7 +12,7 @@ ghost use mir.Syntax.{w64};
 ghost use mir.Val.{SFits};
 ghost use Rattle.patterns.specs.Replies.{Answer.refused, numberOf, answerOf, successorAnswer, predecessorAnswer, pageAnswer, isomorphismAnswer, partAnswer};
 ghost use Rattle.patterns.specs.SignedReplies.{signedOf, pageCount, pageLength};
-ghost use Rattle.signed_replies.specs.Ends.{startIn, endIn};
+ghost use Rattle.signed_replies.specs.PartNumbers.{startIn, endIn, turnsIn};
 
 // The number of a refusal: minus the number of its cause.
 fn refusal(cause: Refusal) -> i64
@@ -106,7 +106,7 @@ pub fn start_number(reply: Stretch) -> i64
     ensures { λ r. ⌜ r ≡ signedOf (startIn (partAnswer reply)) ⌝ }
 {
     match reply {
-        Stretch::Part(start, _) => counted(start),
+        Stretch::Part(start, _, _) => counted(start),
         Stretch::Refused(cause) => refusal(cause),
     }
 }
@@ -117,7 +117,18 @@ pub fn end_number(reply: Stretch) -> i64
     ensures { λ r. ⌜ r ≡ signedOf (endIn (partAnswer reply)) ⌝ }
 {
     match reply {
-        Stretch::Part(_, end) => counted(end),
+        Stretch::Part(_, end, _) => counted(end),
+        Stretch::Refused(cause) => refusal(cause),
+    }
+}
+
+// The number of a component's rotations that equal it.
+pub fn turns_number(reply: Stretch) -> i64
+    requires { ⌜ SFits w64 (signedOf (turnsIn (partAnswer reply))) ⌝ }
+    ensures { λ r. ⌜ r ≡ signedOf (turnsIn (partAnswer reply)) ⌝ }
+{
+    match reply {
+        Stretch::Part(_, _, turns) => counted(turns),
         Stretch::Refused(cause) => refusal(cause),
     }
 }

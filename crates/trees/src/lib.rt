@@ -19,7 +19,7 @@ ghost use Rattle.trees.specs.Beginnings.{leadingPoints, lastStart, star}
 ghost use Rattle.trees.specs.HeldNeighbours.{behind, HeldNeighbours};
 
 // Less or equal.
-pub fn not_greater(order: Order) -> bool
+fn not_greater(order: Order) -> bool
     ensures { λ r. ⌜ r ≡ isLe (orderingOf order) ⌝ }
 {
     match order {

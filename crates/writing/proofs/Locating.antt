@@ -3,22 +3,18 @@ use mathlib.Core.Path.{_≡_, refl, ap, sym, _∙_}
 use mathlib.Core.List.{List, []}
 use Prim.Native.Nat.{ℕ, _+_, _-_, _≤_, _<_}
 use native.Mathlib.Omega.{arith}
-use borrow.Author.Tests.{lt-ltb, le-ltb}
 use lib.ListN.{length, take, drop, getD, length-append}
-use Rattle.lists.proofs.Tests.{cond-true, cond-false}
 use Rattle.patterns.specs.Component.{Component, flat}
-use Rattle.patterns.specs.System.{System, weight}
-use Rattle.patterns.specs.Written.{componentNumbers, writeNumber, bytes, written, startOf}
-use Rattle.patterns.specs.Reading.{done}
-use Rattle.patterns.specs.Replies.{part-is, part-refused}
-use Rattle.patterns.specs.Entry.{partAnswered, componentIn}
+use Rattle.patterns.specs.System.{System}
+use Rattle.patterns.specs.Written.{componentNumbers, writeNumber, bytes, written}
 use Rattle.patterns.proofs.Trees.{length-flat}
 use Rattle.memory.specs.Memory.{Holds, HeldSystem}
 use Rattle.memory.proofs.Parts.{part-fits, held-count, held-points, held-fits, held-part, held-next}
 use Rattle.form_theory.proofs.Numbers.{bytes-length}
-use Rattle.form_theory.proofs.Stretches.{start-first, start-after, start-last, start-within}
+use Rattle.form_theory.proofs.Stretches.{stretch-end, start-first, start-next, start-last, start-within}
 use Rattle.form_theory.proofs.WrittenBack.{written-short}
 use Rattle.writing.specs.Writable.{HeldComponent}
+use Rattle.writing.specs.Passed.{Passed}
 
 -- One component: the number of its trees, then their codes.
 pub codes-bound : {s : List ℕ} → HeldComponent s → length (bytes s) ≤ 400
@@ -31,23 +27,28 @@ component-long k front rest p q r c e =
     let b : rest ≡ length (bytes (flat c)) = r ∙ ap (λ x. length (bytes x)) e in
     omega (arith, length-append (writeNumber (length c)) (bytes (flat c)))
 
--- The first i components of S are passed: the next begins at `start` in the code, and at `from` in the trees.
-pub record Passed (S : System) (i from start : ℕ) : Type 0 where
-  pub place : from ≡ weight (take i S)
-  pub begins : start ≡ startOf S i
-
+-- The components that are passed.
 module _ {sizes trees : List ℕ} (w : HeldSystem sizes trees) where
   pub passed-none : (n m : ℕ) → n ≡ length (writeNumber (length trees)) → m ≡ length (writeNumber (length sizes))
       → (S : System) → Holds S sizes trees → Passed S 0 0 (n + m)
   passed-none n m p q S h =
       record { place = refl; begins = rw (p, q, held-points h, held-count h) (sym (start-first S)) }
 
+  -- no component begins past 804 bytes
+  pub begin-bound : {i from start : ℕ} → ((S : System) → Holds S sizes trees → Passed S i from start) → start ≤ 804
+  begin-bound {i} f =
+      let S = w .system in
+      omega (arith, f S (w .holds) .begins, start-within S i, written-short S (w .each-nonempty) (w .small))
+
   module _ {i from start : ℕ} (f : (S : System) → Holds S sizes trees → Passed S i from start) (k : i < length sizes) where
     -- the trees of the next component
     abbrev part : List ℕ
     part = take (from + getD sizes i 0 - from) (drop from trees)
 
-    part-is-flat : (S : System) → Holds S sizes trees → part ≡ flat (getD S i [])
+    inside : (S : System) → Holds S sizes trees → i < length S
+    inside S h = omega (arith, held-count h)
+
+    pub part-is-flat : (S : System) → Holds S sizes trees → part ≡ flat (getD S i [])
     part-is-flat S h = held-part h i from (from + getD sizes i 0) k (f S h .place) refl
 
     pub next-fits : from + getD sizes i 0 ≤ length trees
@@ -56,12 +57,11 @@ module _ {sizes trees : List ℕ} (w : HeldSystem sizes trees) where
     pub next-held : HeldComponent part
     next-held =
         let S = w .system in
-        let here : i < length S = omega (arith, held-count (w .holds)) in
         let flat-is = part-is-flat S (w .holds) in
         record {
           trees = getD S i [];
           is = flat-is;
-          small = omega (arith, ap length flat-is, length-flat (getD S i []), part-fits S i here, w .small);
+          small = omega (arith, ap length flat-is, length-flat (getD S i []), part-fits S i (inside S (w .holds)), w .small);
         }
 
     module _ (long : ℕ) (p : (c : Component) → part ≡ flat c → long ≡ length (bytes (componentNumbers c))) where
@@ -69,30 +69,13 @@ module _ {sizes trees : List ℕ} (w : HeldSystem sizes trees) where
       passed-next S h =
           record {
             place = held-next h i from (from + getD sizes i 0) k (f S h .place) refl;
-            begins = omega (arith, f S h .begins, start-after S i (omega (arith, held-count h)), p (getD S i []) (part-is-flat S h));
+            begins = omega (arith, f S h .begins, start-next S i (inside S h), stretch-end S i (inside S h), p (getD S i []) (part-is-flat S h));
           }
 
-      -- no component ends past 804 bytes
       pub next-bound : start + long ≤ 804
-      next-bound =
-          let S = w .system in
-          omega (arith, passed-next S (w .holds) .begins, start-within S (i + 1), written-short S (w .each-nonempty) (w .small))
+      next-bound = begin-bound passed-next
 
 -- behind the last component the code ends
-pub length-found : {sizes trees : List ℕ} (r : ℕ) → ((S : System) → Holds S sizes trees → r ≡ startOf S (length sizes))
-    → (S : System) → Holds S sizes trees → r ≡ length (written S)
-length-found {sizes} r f S h = f S h ∙ start-last S (length sizes) (omega (arith, held-count h))
-
-module _ {sizes trees : List ℕ} (position : ℕ) where
-  -- the component asked for
-  pub located : position < length sizes → (start end : ℕ) → ((S : System) → Holds S sizes trees → start ≡ startOf S position)
-      → ((S : System) → Holds S sizes trees → end ≡ startOf S (position + 1))
-      → (S : System) → Holds S sizes trees → part-is start end ≡ partAnswered (componentIn S position)
-  located k start end p q S h =
-      let found : componentIn S position ≡ done (startOf S position, startOf S (position + 1)) =
-      cond-true _ _ (lt-ltb position (length S) (omega (arith, held-count h))) in
-      rw (found, p S h, q S h)
-
-  -- there is no component of that position
-  pub not-located : length sizes ≤ position → (S : System) → Holds S sizes trees → part-refused 9 ≡ partAnswered (componentIn S position)
-  not-located k S h = sym (ap partAnswered (cond-false _ _ (le-ltb position (length S) (omega (arith, held-count h)))))
+pub length-found : {sizes trees : List ℕ} {from start : ℕ} → ((S : System) → Holds S sizes trees → Passed S (length sizes) from start)
+    → (S : System) → Holds S sizes trees → start ≡ length (written S)
+length-found {sizes} f S h = f S h .begins ∙ start-last S (length sizes) (omega (arith, held-count h))

@@ -1,8 +1,7 @@
-// The written code of a system in memory [document 01, "The written code"]: how long it is, where a component stands in it, and its bytes, at a place with
+// The written code of a system in memory [document 01, "The written code"]: how long it is, where a component begins in it, and its bytes, at a place with
 // room for them or refused for want of room.
 use patterns::Refusal;
 use patterns::Reply;
-use patterns::Stretch;
 use trees::count;
 use written::put_number;
 ghost use denote.Ref.{now};
@@ -13,12 +12,13 @@ ghost use lib.ListN.{length};
 ghost use Rattle.lists.specs.Select.{gather};
 ghost use Rattle.patterns.specs.Component.{Component, flat};
 ghost use Rattle.patterns.specs.System.{System};
-ghost use Rattle.patterns.specs.Written.{writeNumber, bytes as bytesOf, componentNumbers, written, startOf};
-ghost use Rattle.patterns.specs.Replies.{answerOf, partAnswer};
-ghost use Rattle.patterns.specs.Entry.{Replied, Outcome.gives, partAnswered, componentIn};
+ghost use Rattle.patterns.specs.Written.{writeNumber, bytes as bytesOf, componentNumbers, written};
+ghost use Rattle.patterns.specs.Replies.{answerOf};
+ghost use Rattle.patterns.specs.Entry.{Replied, Outcome.gives};
 ghost use Rattle.memory.specs.Memory.{Holds, HeldSystem};
 ghost use Rattle.written.specs.Putting.{Placed};
 ghost use Rattle.writing.specs.Writable.{HeldComponent, ComponentRoom, ComponentsRoom, SystemRoom};
+ghost use Rattle.writing.specs.Passed.{Passed};
 
 // How many bytes a number takes.
 fn width(x: usize) -> usize
@@ -45,7 +45,7 @@ fn total_width(s: &[u8]) -> usize
 }
 
 // How many bytes a component takes: the number of its trees, then their codes.
-fn component_width(s: &[u8]) -> usize
+pub fn component_width(s: &[u8]) -> usize
     requires { ⌜ HeldComponent (now s) ⌝ }
     ensures { λ r. ⌜ ((c : Component) → now (s .entry) ≡ flat c → r ≡ length (bytesOf (componentNumbers c))) ⌝ }
 {
@@ -53,10 +53,16 @@ fn component_width(s: &[u8]) -> usize
     width(k) + total_width(s)
 }
 
-// Where the component at `position` begins in the written code of the system; behind the last component, where the code ends.
-fn start_of(sizes: &[u8], trees: &[u8], position: usize) -> usize
+// Where a component begins: its bytes in the written code, and its trees in memory.
+pub struct Beginning {
+    pub start: usize,
+    pub from: usize,
+}
+
+// Where the component at `position` begins; behind the last component, where the code and the trees end.
+pub fn beginning_of(sizes: &[u8], trees: &[u8], position: usize) -> Beginning
     requires { ⌜ HeldSystem (now sizes) (now trees) × (position ≤ length (now sizes)) ⌝ }
-    ensures { λ r. ⌜ ((S : System) → Holds S (now (sizes .entry)) (now (trees .entry)) → r ≡ startOf S position) ⌝ }
+    ensures { λ r. ⌜ ((S : System) → Holds S (now (sizes .entry)) (now (trees .entry)) → Passed S position (r .from) (r .start)) ⌝ }
 {
     let mut start = width(trees.len()) + width(sizes.len());
     let mut from = 0;
@@ -67,7 +73,7 @@ fn start_of(sizes: &[u8], trees: &[u8], position: usize) -> usize
         from = to;
         i += 1;
     }
-    start
+    Beginning { start, from }
 }
 
 // How many bytes the written code of the system takes.
@@ -75,21 +81,8 @@ pub fn system_length(sizes: &[u8], trees: &[u8]) -> usize
     requires { ⌜ HeldSystem (now sizes) (now trees) ⌝ }
     ensures { λ r. ⌜ ((S : System) → Holds S (now (sizes .entry)) (now (trees .entry)) → r ≡ length (written S)) ⌝ }
 {
-    start_of(sizes, trees, sizes.len())
-}
-
-// Where the component at `position` stands in the written code of the system.
-pub fn stretch_in(sizes: &[u8], trees: &[u8], position: usize) -> Stretch
-    requires { ⌜ HeldSystem (now sizes) (now trees) ⌝ }
-    ensures { λ r. ⌜ ((S : System) → Holds S (now (sizes .entry)) (now (trees .entry))
-        → partAnswer r ≡ partAnswered (componentIn S position)) ⌝ }
-{
-    if sizes.len() <= position {
-        return Stretch::Refused(Refusal::Position);
-    }
-    let start = start_of(sizes, trees, position);
-    let end = start_of(sizes, trees, position + 1);
-    Stretch::Part(start, end)
+    let end = beginning_of(sizes, trees, sizes.len());
+    end.start
 }
 
 // Writes the numbers of `s` from `at` on, and answers the place after them.

@@ -4,7 +4,7 @@ use sides::maps::is_isomorphism;
 use sides::{PageReply, Side, ENGINE, REFERENCE};
 use std::fmt::Write;
 
-pub const ENTRIES: [&str; 15] = [
+pub const ENTRIES: [&str; 16] = [
     "accept",
     "first",
     "successor",
@@ -20,6 +20,7 @@ pub const ENTRIES: [&str; 15] = [
     "longest_cycle",
     "component_start",
     "component_end",
+    "component_turns",
 ];
 
 /// The bytes in front of a lent buffer and behind it.
@@ -180,10 +181,11 @@ impl Comparison {
         self.replies("longest_cycle", table, |side| (side.longest_cycle)(table));
     }
 
-    /// Both ends of a component.
+    /// Both ends of a component, and its turns.
     pub fn component(&mut self, code: &[u8], position: usize) {
         self.replies("component_start", code, |side| (side.component_start)(code, position));
         self.replies("component_end", code, |side| (side.component_end)(code, position));
+        self.replies("component_turns", code, |side| (side.component_turns)(code, position));
     }
 
     /// Which isomorphism is written is left open, so the engine's is checked arrow by arrow.

@@ -28,8 +28,25 @@ pub fn code(comparison: &mut Comparison, code: &[u8]) {
     for wanted in [0, 3, MOST_WANTED + 1] {
         page(comparison, code, wanted);
     }
-    let components = code.get(1).map_or(0, |&m| m as usize);
+    let components = components_said(code);
     for position in [0, components / 2, components.saturating_sub(1), components, usize::MAX] {
+        comparison.component(code, position);
+    }
+}
+
+/// The second number, which in a code is that of its components; 0 where there is none.
+fn components_said(code: &[u8]) -> usize {
+    let first = code.first().map_or(0, |&low| if low < 128 { 1 } else { 2 });
+    match code.get(first..) {
+        Some([low, ..]) if *low < 128 => *low as usize,
+        Some([low, high, ..]) => *low as usize - 128 + 128 * *high as usize,
+        _ => 0,
+    }
+}
+
+/// Every position of a code, good or bad, and the one after the last.
+pub fn every_component(comparison: &mut Comparison, code: &[u8]) {
+    for position in 0..=components_said(code) {
         comparison.component(code, position);
     }
 }

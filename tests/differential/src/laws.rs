@@ -1,4 +1,4 @@
-//! What holds of sums and products, whatever the codes, as equalities of the engine's own replies: each result goes on as an input.
+//! What holds of sums, products and turns, whatever the codes, as equalities of the engine's own replies: each result goes on as an input.
 
 use crate::compare::Comparison;
 use sides::maps::shuffled;
@@ -89,10 +89,13 @@ fn in_pairs(f: &[u8], g: &[u8]) -> Vec<u8> {
     f.iter().flat_map(|&x| g.iter().map(move |&y| (x as usize * g.len() + y as usize) as u8)).collect()
 }
 
-/// The components of a code, by the component reader, sorted.
-fn components(code: &[u8]) -> Vec<&[u8]> {
-    let part = |i| code.get((ENGINE.component_start)(code, i) as usize..(ENGINE.component_end)(code, i) as usize);
-    let mut parts: Vec<&[u8]> = (0..).map_while(part).collect();
+/// The components of a code with their turns, by the component reader, sorted.
+fn components(code: &[u8]) -> Vec<(&[u8], i64)> {
+    let part = |i| {
+        let bytes = code.get((ENGINE.component_start)(code, i) as usize..(ENGINE.component_end)(code, i) as usize)?;
+        Some((bytes, (ENGINE.component_turns)(code, i)))
+    };
+    let mut parts: Vec<(&[u8], i64)> = (0..).map_while(part).collect();
     parts.sort();
     parts
 }
@@ -125,8 +128,8 @@ fn cycles_of_pairs(f: &[u8], g: &[u8]) -> Cycles {
     found
 }
 
-/// The result is the code of any map that is made of two maps with these patterns; a sum has the components of both, and of a product the cycles are known, and the
-/// greatest distance from one.
+/// The result is the code of any map that is made of two maps with these patterns; a sum has the components of both, with the same turns, and of a product the cycles
+/// are known, and the greatest distance from one.
 fn of_maps(comparison: &mut Comparison, f: &[u8], g: &[u8], random: &mut Random) {
     let (a, b) = (code_of(f), code_of(g));
     if f.len() + g.len() <= 200 {
@@ -149,4 +152,86 @@ fn of_maps(comparison: &mut Comparison, f: &[u8], g: &[u8], random: &mut Random)
 pub fn of_two(comparison: &mut Comparison, f: &[u8], g: &[u8], random: &mut Random) {
     commutative(comparison, &code_of(f), &code_of(g));
     of_maps(comparison, f, g, random);
+}
+
+/// The bytes of a number.
+fn written_number(x: usize) -> Vec<u8> {
+    if x < 128 {
+        vec![x as u8]
+    } else {
+        vec![(x % 128 + 128) as u8, (x / 128) as u8]
+    }
+}
+
+/// The greatest number of equal pieces that a list of bytes is made of, one after another.
+fn equal_pieces(bytes: &[u8]) -> usize {
+    let size = (1..=bytes.len()).find(|size| bytes.len() % size == 0 && bytes[*size..] == bytes[..bytes.len() - size]);
+    size.map_or(0, |size| bytes.len() / size)
+}
+
+/// A component of a code: its turns, the number of its trees, their bytes and the number of its points.
+struct Component<'a> {
+    turns: usize,
+    k: usize,
+    trees: &'a [u8],
+    points: usize,
+}
+
+impl Component<'_> {
+    fn new((part, turns): (&[u8], i64)) -> Component<'_> {
+        let (k, trees) = match part[0] as usize {
+            low if low < 128 => (low, &part[1..]),
+            low => (low - 128 + 128 * part[1] as usize, &part[2..]),
+        };
+        // Of a number of one byte or of two exactly the last byte is below 128.
+        let points = trees.iter().filter(|&&byte| byte < 128).count();
+        Component { turns: turns.max(0) as usize, k, trees, points }
+    }
+
+    /// So many copies of its trees, one after another, along one cycle.
+    fn part(&self, copies: usize) -> Vec<u8> {
+        [written_number(copies * self.k), self.trees.repeat(copies)].concat()
+    }
+
+    fn code(&self, copies: usize) -> Vec<u8> {
+        [written_number(copies * self.points), written_number(1), self.part(copies)].concat()
+    }
+}
+
+/// The trees are as many equal pieces as there are turns, and no more. As a piece ends where a tree ends, the turns divide the number of trees.
+fn of_pieces(comparison: &mut Comparison, component: &Component, code: &[u8]) {
+    let agree = component.turns == equal_pieces(component.trees) && component.k % component.turns == 0;
+    comparison.count("component_turns", agree, |text| {
+        write!(text, "{} turns of {} trees {:?}, code {code:?}", component.turns, component.k, component.trees).unwrap()
+    });
+}
+
+/// So many copies along one cycle have so many times as many turns.
+fn of_copies(comparison: &mut Comparison, component: &Component, copies: usize) {
+    let code = component.code(copies);
+    let (found, expected) = ((ENGINE.component_turns)(&code, 0), (copies * component.turns) as i64);
+    comparison.count("component_turns", found == expected, |text| write!(text, "of {copies} copies {found}, {expected}, code {code:?}").unwrap());
+}
+
+/// With a cycle of l points a component makes as many components as the greatest common divisor of l and its number of trees says, each of so many copies of it that
+/// these together have l times as many points.
+fn with_cycle(comparison: &mut Comparison, component: &Component, l: usize) {
+    let (common, cycle) = (gcd(component.k, l), Component { turns: l, k: 1, trees: &[1], points: 1 });
+    let (part, product) = (component.part(l / common), times(&component.code(1), &cycle.code(l)));
+    let expected = vec![(&part[..], (l / common * component.turns) as i64); common];
+    let agree = product.as_ref().is_ok_and(|code| components(code) == expected);
+    comparison
+        .count("component_turns", agree, |text| write!(text, "with a cycle of {l} {product:?}, {expected:?}, component {:?}", component.part(1)).unwrap());
+}
+
+/// What holds of the turns of each component of a code.
+pub fn turns(comparison: &mut Comparison, code: &[u8], random: &mut Random) {
+    for part in components(code) {
+        let component = Component::new(part);
+        of_pieces(comparison, &component, code);
+        for copies in [1, 1 + random.below(200 / component.points)] {
+            of_copies(comparison, &component, copies);
+            with_cycle(comparison, &component, copies);
+        }
+    }
 }

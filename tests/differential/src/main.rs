@@ -9,7 +9,7 @@ mod model;
 
 use compare::{Comparison, ENTRIES};
 use laws::Laws;
-use sides::maps::{shuffled, small_components, uniform, KINDS};
+use sides::maps::{shuffled, small_components, uniform, KINDS, PERIODIC};
 use sides::random::Random;
 use sides::{code_of, written, PageReply, ENGINE, EVERY_PAGE, MOST_WANTED, REFERENCE};
 use std::path::Path;
@@ -451,6 +451,37 @@ fn laws_by_chance(comparison: &mut Comparison, laws: &mut Laws, random: &mut Ran
     }
 }
 
+/// The code of some maps side by side whose cycles are periodic, or nearly so, so that it has components of different turns.
+fn periodic_code(random: &mut Random) -> Vec<u8> {
+    let (mut left, mut code) = (any_count(random), vec![0, 0]);
+    while left > 0 {
+        let n = if random.below(2) == 0 { left } else { 1 + random.below(left) };
+        let (_, kind) = *random.pick(&PERIODIC);
+        code = written(|out| (REFERENCE.sum)(&code, &code_of(&kind(n, random)), out)).expect("a sum");
+        left -= n;
+    }
+    code
+}
+
+/// The turns of every code of up to 8 points, and of periodic cycles: of each component, what holds of them, and of the code damaged or with two stretches exchanged.
+fn turns(comparison: &mut Comparison, random: &mut Random, rounds: usize) {
+    for code in (0..=8).flat_map(codes) {
+        inputs::every_component(comparison, &code);
+        laws::turns(comparison, &code, random);
+    }
+    for _ in 0..rounds {
+        let code = periodic_code(random);
+        inputs::code(comparison, &code);
+        inputs::every_component(comparison, &code);
+        laws::turns(comparison, &code, random);
+        let [mut damaged, mut exchanged] = [&code, &code].map(Vec::clone);
+        (0..1 + random.below(3)).for_each(|_| inputs::damage(&mut damaged, random));
+        inputs::exchange(&mut exchanged[2..], random);
+        inputs::code(comparison, &damaged);
+        inputs::code(comparison, &exchanged);
+    }
+}
+
 /// The number of calls of each entry, and whether the run was long enough and without a difference.
 fn report(comparison: &Comparison, laws: &Laws) -> bool {
     for (entry, calls) in ENTRIES.iter().zip(comparison.calls) {
@@ -490,6 +521,7 @@ fn main() -> ExitCode {
     two_codes(comparison, random, 5_000);
     noise_by_two(comparison, random, 8_000);
     laws_by_chance(comparison, laws, random, 12_000);
+    turns(comparison, random, 5_000);
     if report(comparison, laws) {
         ExitCode::SUCCESS
     } else {

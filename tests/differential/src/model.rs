@@ -103,6 +103,23 @@ fn page(comparison: &mut Comparison, line: &str) {
     }
 }
 
+/// One line of the file of components. Both ends are told by the start and by the bytes that are shown.
+fn component(comparison: &mut Comparison, line: &str) {
+    let mut words = Line(line.split_whitespace());
+    let (code, position) = (words.list().1, words.number());
+    let (kind, value, turns) = (words.number(), words.number() as i64, words.number() as i64);
+    let part = words.list().1;
+    assert!(kind != 0 || code[value as usize..].starts_with(&part), "the part of the code, case {line}");
+    let expected = if kind == 0 { [value, value + part.len() as i64, turns] } else { [-value; 3] };
+    for side in [&ENGINE, &REFERENCE] {
+        let entries = [("component_start", side.component_start), ("component_end", side.component_end), ("component_turns", side.component_turns)];
+        for ((entry, call), expected) in entries.into_iter().zip(expected) {
+            let got = call(&code, position);
+            comparison.count(entry, got == expected, |text| write!(text, "{} {got}, model {expected}, case {line}", side.name).unwrap());
+        }
+    }
+}
+
 /// One line of the file of maps with shuffled copies.
 fn pair(comparison: &mut Comparison, line: &str) {
     let mut words = Line(line.split_whitespace());
@@ -144,6 +161,7 @@ pub fn run(comparison: &mut Comparison, data: &Path) {
     for name in ["pages", "pages_long"] {
         read(name).lines().for_each(|line| page(comparison, line));
     }
+    read("components").lines().for_each(|line| component(comparison, line));
     read("pairs").lines().for_each(|line| pair(comparison, line));
     for n in 0..=8 {
         listing(comparison, n, &read(&format!("listing_{n}")));

@@ -22,8 +22,8 @@ returns c =
     let h = sym (c .before .at-most .ensures) ∙ not-of-true (c .before .at-most .result) (c .if1 .taken) in
     λ d e. left-refused (compared (c .before) .pre) d e h _
 
-has-least-rotation-requires : tie.Need-has-least-rotation-requires
-has-least-rotation-requires c κs =
+is-least-requires : tie.Need-is-least-requires
+is-least-requires c κs =
     let call = c .before .before .before in
     let p = merged call .pre in
     record { trees = leftMerge p; is = call .merge-left .ensures (p .pair .this) (p .pair .that) (p .pair .after) (p .pair .is) }
@@ -35,7 +35,7 @@ returns-2 c =
     let p = merged call .pre in
     let h = sym (test .before .at-most .ensures) ∙ not-of-false (test .before .at-most .result) (test .if1 .left) in
     let m = call .merge-left .ensures (p .pair .this) (p .pair .that) (p .pair .after) (p .pair .is) in
-    λ d e. left-tested p d e h (c .has-least-rotation .result) _ (c .has-least-rotation .ensures (leftMerge p) m) m
+    λ d e. left-tested p d e h (c .is-least .result) _ (c .is-least .ensures (leftMerge p) m) m
 
 pub left-child-spec : {M : Type 1} → statement M
 left-child-spec =
@@ -56,6 +56,6 @@ left-child-spec =
     (λ c κs. search needs)
     returns
     (λ c κs. search needs)
-    has-least-rotation-requires
+    is-least-requires
     (λ c. search needs)
     returns-2)

@@ -40,8 +40,8 @@ returns c = λ d n e l. right-refused (compared (c .before) .pre) d e n l (sym (
 last-branch-requires : tie.Need-last-branch-requires
 last-branch-requires c κs = let p = compared (c .before .before) .pre in record { tree = p .pair .that; is = that-is p }
 
-has-least-rotation-requires : tie.Need-has-least-rotation-requires
-has-least-rotation-requires c κs =
+is-least-requires : tie.Need-is-least-requires
+is-least-requires c κs =
     let call = c .before .before .before in
     let p = branched (tested (merged call)) .pre in
     record { trees = rightMerge p; is = call .merge-right .ensures (p .pair .this) (p .pair .that) (p .pair .after) (p .pair .is) }
@@ -57,7 +57,7 @@ returns-2 c =
     λ d n e l.
     right-tested p d e n l (sym (test .before .at-most .ensures) ∙ test .if1 .left) (branch .last-branch .result) (begins branch)
     (sym (order .at-most2 .ensures) ∙ call .before .before .if2 .taken)
-    (c .has-least-rotation .result) _ (c .has-least-rotation .ensures (rightMerge p) m) m
+    (c .is-least .result) _ (c .is-least .ensures (rightMerge p) m) m
 
 returns-3 : tie.Need-returns-3
 returns-3 c =
@@ -99,7 +99,7 @@ right-child-spec =
     (λ c. omega (arith, reach (branched (c .before) .pre .pair)))
     (λ c κs. search needs)
     (λ c κs. search needs)
-    has-least-rotation-requires
+    is-least-requires
     (λ c. search needs)
     returns-2
     returns-3)

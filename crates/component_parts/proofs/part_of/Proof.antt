@@ -22,17 +22,20 @@ from c = c .before .start .given .0 .0
 abbrev to : tie.After-known-told → ℕ
 to c = c .before .start .given .0 .1 .0
 
+abbrev turns : tie.After-known-told → ℕ
+turns c = c .before .start .given .0 .1 .1 .0
+
 ends : (c : tie.After-known-told) → (from c < to c) × (to c ≤ length (now (start (asked c) .args .code)))
 ends c =
     let a = start (asked c) .args in
-    part-within (a .code) (a .position) (asked c .stretch-of .ensures) (from c) (to c) (c .before .start .given .1)
+    part-within (a .code) (a .position) (asked c .stretch-of .ensures) (from c) (to c) (turns c) (c .before .start .given .1)
     (λ j h. omega (arith, asked c .before .shared-slice-known .given j))
 
 returns : tie.Need-returns
 returns c =
     let part = c .before in
     let a = start (asked part) .args in
-    part-shown (a .code) (a .position) (asked part .stretch-of .ensures) (from part) (to part) (part .before .start .given .1) _
+    part-shown (a .code) (a .position) (asked part .stretch-of .ensures) (from part) (to part) (turns part) (part .before .start .given .1) _
     (record { bytes-are = refl; block = refl; place = add-comm (from part) (a .code .ptr .1) })
 
 -- there is a refusal

@@ -3,7 +3,7 @@ use mathlib.Core.Path.{sym}
 use mathlib.Core.List.{List}
 use Prim.Native.Nat.{ℕ}
 use lib.Seq.{length-take-le}
-use Rattle.acceptance.proofs.Taken.{Taken, code-taken, code-refused, taken-held, taken-count, taken-points}
+use Rattle.acceptance.proofs.Taken.{Taken, code-taken, code-refused, taken-count, taken-points}
 use Rattle.patterns.specs.Replies.{partAnswer}
 use Rattle.component_parts.proofs.Showing.{code-fault, code-holds}
 use borrow.Author.Needs.{needs}
@@ -32,17 +32,19 @@ taken c =
 array-share-prefix-sizes : tie.Need-array-share-prefix-sizes
 array-share-prefix-sizes c = taken-count (taken c)
 
-slice-aggregate-stretch-in : tie.Need-slice-aggregate-stretch-in
-slice-aggregate-stretch-in c = sym (length-take-le _ _ (taken-count (taken (c .before))))
+slice-aggregate-part-in : tie.Need-slice-aggregate-part-in
+slice-aggregate-part-in c = sym (length-take-le _ _ (taken-count (taken (c .before))))
 
 array-share-prefix-trees : tie.Need-array-share-prefix-trees
 array-share-prefix-trees c = taken-points (taken (c .before))
 
-slice-aggregate-stretch-in-2 : tie.Need-slice-aggregate-stretch-in-2
-slice-aggregate-stretch-in-2 c = sym (length-take-le _ _ (taken-points (taken (c .before .before))))
+slice-aggregate-part-in-2 : tie.Need-slice-aggregate-part-in-2
+slice-aggregate-part-in-2 c = sym (length-take-le _ _ (taken-points (taken (c .before .before))))
 
-stretch-in-requires : tie.Need-stretch-in-requires
-stretch-in-requires c κs = taken-held (taken (c .before .before))
+part-in-requires : tie.Need-part-in-requires
+part-in-requires c κs =
+    let t = taken (c .before .before) in
+    record { system = t .system; holds = t .holds; canonical-is = t .canonical-is; small = t .small }
 
 returns : tie.Need-returns
 returns c =
@@ -55,7 +57,7 @@ returns-2 c =
     let d = c .before .before .before in
     let k = accepting (d .before .before .before) in
     let t = taken d in
-    code-holds (code k) (start k .args .position) (t .system) (t .is) (partAnswer (c .stretch-in .result)) (c .stretch-in .ensures (t .system) (t .holds))
+    code-holds (code k) (start k .args .position) (t .system) (t .is) (partAnswer (c .part-in .result)) (c .part-in .ensures (t .system) (t .holds))
 
 pub stretch-of-spec : {M : Type 1} → statement M
 stretch-of-spec =
@@ -69,9 +71,9 @@ stretch-of-spec =
     (λ c. search needs)
     (λ c. search needs)
     array-share-prefix-sizes
-    slice-aggregate-stretch-in
+    slice-aggregate-part-in
     array-share-prefix-trees
-    slice-aggregate-stretch-in-2
-    stretch-in-requires
+    slice-aggregate-part-in-2
+    part-in-requires
     returns
     returns-2)

@@ -5,7 +5,7 @@ use mir.Val.{SFits}
 use Rattle.patterns.specs.declared.reply.Stretch.{Stretch}
 use Rattle.patterns.specs.Replies.{partAnswer}
 use Rattle.patterns.specs.SignedReplies.{signedOf}
-use Rattle.signed_replies.specs.Ends.{startIn}
+use Rattle.signed_replies.specs.PartNumbers.{startIn}
 use Rattle.signed_replies.proofs.Fitting.{read-back}
 use borrow.Author.Needs.{needs}
 use Rattle.signed_replies.proofs.start_number.Statement.{statement}

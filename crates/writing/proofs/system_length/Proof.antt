@@ -4,7 +4,7 @@ use Rattle.writing.proofs.system_length.Statement.{statement}
 use Rattle.writing.proofs.system_length.Tie as tie
 
 returns : tie.Need-returns
-returns c = length-found (c .start-of .result) (c .start-of .ensures)
+returns c = length-found (c .beginning-of .ensures)
 
 pub system-length-spec : {M : Type 1} → statement M
 system-length-spec = tie.close (tie.spec (λ c κs. search needs) returns)

@@ -1,16 +1,16 @@
 use denote.Ref.{now}
-use mathlib.Core.Path.{_≡_, ap, _∙_}
+use mathlib.Core.Path.{_≡_, subst}
 use Prim.Native.Nat.{_+_, _-_, _<_, _≤_}
 use native.Mathlib.Omega.{arith}
 use borrow.Author.Needs.{needs}
 use lib.ListN.{length, getD}
 use Rattle.patterns.specs.System.{System}
-use Rattle.patterns.specs.Written.{startOf}
 use Rattle.memory.specs.Memory.{Holds}
 use Rattle.form_theory.proofs.Numbers.{write-length}
-use Rattle.writing.proofs.Locating.{Passed, passed-none, next-fits, next-held, next-bound, passed-next}
-use Rattle.writing.proofs.start_of.Statement.{statement}
-use Rattle.writing.proofs.start_of.Tie as tie
+use Rattle.writing.specs.Passed.{Passed}
+use Rattle.writing.proofs.Locating.{passed-none, next-fits, next-held, next-bound, passed-next}
+use Rattle.writing.proofs.beginning_of.Statement.{statement}
+use Rattle.writing.proofs.beginning_of.Tie as tie
 
 abbrev Inv-loop : tie.InvT-loop
 Inv-loop sizes trees position start₀ from₀ i₀ start from i = (i ≤ position) × ((S : System) → Holds S sizes trees → Passed S i from start)
@@ -70,10 +70,10 @@ returns : tie.Need-returns Inv-loop μ-loop
 returns c = λ S h.
     let l = c .before .loop in
     let e : l .i ≡ c .before .before .before .before .before .before .args .position = omega arith in
-    l .inv .1 S h .begins ∙ ap (startOf S) e
+    subst (λ k. Passed S k (l .from) (l .start)) e (l .inv .1 S h)
 
-pub start-of-spec : {M : Type 1} → statement M
-start-of-spec =
+pub beginning-of-spec : {M : Type 1} → statement M
+beginning-of-spec =
     tie.close
     (tie.spec
     Inv-loop

@@ -4,13 +4,12 @@ use mathlib.Core.List.{List, _∷_, _++_}
 use Prim.Native.Nat.{ℕ, _-_}
 use native.Mathlib.Omega.{arith}
 use borrow.Author.Needs.{needs}
-use lib.Dec.{isLe}
 use lib.ListN.{length}
 use Rattle.lists.specs.Blocks.{orderingOf}
-use Rattle.trees.proofs.Walks.{Along, Next, along-next, along-length}
-use Rattle.components.proofs.OnePass.{Kept, none-less, kept-start, kept-within, old, old-tree, treesAt, kept-equal, kept-greater, kept-smaller, kept-end}
-use Rattle.components.proofs.has_least_rotation.Statement.{statement}
-use Rattle.components.proofs.has_least_rotation.Tie as tie
+use Rattle.trees.proofs.Walks.{Along, Next, along-next}
+use Rattle.components.proofs.OnePass.{Kept, none-less, kept-start, kept-within, old, old-tree, treesAt, kept-equal, kept-greater, kept-smaller, period-some, kept-cut, kept-whole}
+use Rattle.components.proofs.least_rotation.Statement.{statement}
+use Rattle.components.proofs.least_rotation.Tie as tie
 
 abbrev Inv-loop : tie.InvT-loop
 Inv-loop s period₀ at₀ period at = Along s at (Kept period)
@@ -88,17 +87,20 @@ loop-again-2 c =
     let call = c .before .before in
     kept-equal (W (turn call)) (this (turn call)) (that (turn call)) (answer call ∙ ap orderingOf (c .enum-told3 .given .1))
 
-compare-turned-requires : tie.Need-compare-turned-requires Inv-loop μ-loop
-compare-turned-requires c κs =
-    let w = c .before .loop .inv in
-    omega (arith, kept-within w, along-length w)
+rem-if2 : tie.Need-rem-if2 Inv-loop μ-loop
+rem-if2 c = period-some (c .before .loop .inv)
 
 returns-3 : tie.Need-returns-3 Inv-loop μ-loop
-returns-3 c =
-    λ d e. c .not-greater .ensures ∙ ap isLe (c .before .compare-turned .ensures) ∙ kept-end (c .before .before .before .loop .inv) (omega arith) d e
+returns-3 c = λ d e. kept-cut (c .before .before .loop .inv) (omega arith) d e (λ z. c .if2 .taken z)
 
-pub has-least-rotation-spec : {M : Type 1} → statement M
-has-least-rotation-spec =
+div-turns : tie.Need-div-turns Inv-loop μ-loop
+div-turns c = period-some (c .before .before .loop .inv)
+
+returns-4 : tie.Need-returns-4 Inv-loop μ-loop
+returns-4 c = λ d e. kept-whole (c .before .before .loop .inv) (omega arith) d e (c .if2 .left)
+
+pub least-rotation-spec : {M : Type 1} → statement M
+least-rotation-spec =
     tie.close
     (tie.spec
     Inv-loop
@@ -129,6 +131,7 @@ has-least-rotation-spec =
     loop-again
     loop-less-2
     loop-again-2
-    compare-turned-requires
-    (λ c κs. search needs)
-    returns-3)
+    rem-if2
+    returns-3
+    div-turns
+    returns-4)
