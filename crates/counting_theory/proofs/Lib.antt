@@ -8,4 +8,6 @@ pub mod CyclePlants
 pub mod ShownSystems
 pub mod CountedIsomorphisms
 pub mod CountedTables
+pub mod TreeSymmetries
+pub mod SymmetryBounds
 pub mod SymmetryExamples
