@@ -89,6 +89,13 @@ component-turns {b} {i} s =
     let whole = rounds c some in
     rw (s .part-is) (record { counted = refl; some-turn = bounds .0; at-most = bounds .1; period = whole .period; divides = whole .divides })
 
+-- so there are at most 200
+pub turns-small : {b : List ℕ} {i : ℕ} {p : Part} → ComponentAt b i p → p .turns ≤ 200
+turns-small {b} {i} s =
+    let S = s .system in
+    let c = getD S i [] in
+    omega (arith, component-turns s .at-most, trees-points c, member-total points (in-index S i [] (s .inside)), accepted-canonical b S (s .is) .1)
+
 -- The same of a reply: it tells this of the component at position i of the code's system.
 pub record ReaderTurns (b : List ℕ) (i turns : ℕ) : Type 0 where
   pub system : System
@@ -100,13 +107,6 @@ pub replied-turns : (b : List ℕ) (i start end turns : ℕ) → part-is start e
 replied-turns b i start end turns e =
     let s = stands b i (record { start = start; end = end; turns = turns }) (answer-part (componentOf b i) start end turns e) in
     record { system = s .system; is = s .is; inside = s .inside; turns-are = component-turns s }
-
--- so there are at most 200
-pub turns-small : {b : List ℕ} {i : ℕ} {p : Part} → ComponentAt b i p → p .turns ≤ 200
-turns-small {b} {i} s =
-    let S = s .system in
-    let c = getD S i [] in
-    omega (arith, component-turns s .at-most, trees-points c, member-total points (in-index S i [] (s .inside)), accepted-canonical b S (s .is) .1)
 
 -- The code of a canonical system of at most 200 points.
 module _ (S : System) (c : canonical S ≡ true) (h : weight S ≤ 200) where
