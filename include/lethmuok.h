@@ -5,9 +5,10 @@
  * pattern; 1,000 bytes hold every code.
  *
  * Replies. Every function but lethmuok_page answers one number, an int64_t, and lethmuok_page two of them; test a number for less than 0 before it becomes a size_t.
- * 0 or more is what the function's comment says, and never more than 1,000, the bytes of a page never more than 1,000,000. From -1 to -99 it is a refusal, minus the
- * number of its cause; lethmuok_page has it in both numbers. -100, -101 and -102 are answers too, and no refusals. A result fills the first places of its buffer, and
- * every other byte of every buffer is kept; with a negative reply all of them are.
+ * 0 or more is what the function's comment says. It is never more than 1,000, but for the bytes of a page, which are never more than 1,000,000, and for the number of
+ * tables that lethmuok_table_count answers: that needs more than 32 bits, and is never more than 1,307,674,368,000. From -1 to -99 it is a refusal, minus the number of
+ * its cause; lethmuok_page has it in both numbers. -100, -101 and -102 are answers too, and no refusals. A result fills the first places of its buffer, and every other
+ * byte of every buffer is kept; with a negative reply all of them are.
  *
  * Buffers. Each is a pointer and a count of bytes, all of which must be there to be read, and in an output to be written.
  * - No pointer may be null, not even where the count is 0: for a table of no points, or to lend no room, pass the address of any object and the count 0.
@@ -41,14 +42,15 @@ enum {
     LETHMUOK_POSITION = -9,      /* the code has no component at that position */
     LETHMUOK_WANTED = -10,       /* more than 1,000 codes are wanted */
     LETHMUOK_TOO_LARGE = -11,    /* the result has more than 200 points */
+    LETHMUOK_UNCOUNTED = -12,    /* the code has more than 15 points, and its tables are not counted */
     LETHMUOK_LAST = -100,        /* no code follows in the list */
     LETHMUOK_NONE = -101,        /* there is no isomorphism */
     LETHMUOK_FIRST = -102        /* no code comes before in the list */
 };
 
-/* What always suffices: points of a map, bytes of a code, entries of a census. And the most codes that may be wanted of a page, which LETHMUOK_MAX_WANTED times
- * LETHMUOK_MAX_CODE bytes always hold. */
-enum { LETHMUOK_MAX_POINTS = 200, LETHMUOK_MAX_CODE = 1000, LETHMUOK_MAX_ENTRIES = 19, LETHMUOK_MAX_WANTED = 1000 };
+/* What always suffices: points of a map, bytes of a code, entries of a census. The most codes that may be wanted of a page, which LETHMUOK_MAX_WANTED times
+ * LETHMUOK_MAX_CODE bytes always hold. The most points of a code whose tables are counted. */
+enum { LETHMUOK_MAX_POINTS = 200, LETHMUOK_MAX_CODE = 1000, LETHMUOK_MAX_ENTRIES = 19, LETHMUOK_MAX_WANTED = 1000, LETHMUOK_MAX_COUNTED = 15 };
 
 /* The reply of lethmuok_page: how many codes it wrote, and how many bytes they take together. A refusal stands in both. */
 typedef struct {
@@ -106,6 +108,10 @@ int64_t lethmuok_component_end(const uint8_t *code, size_t code_len, size_t posi
 /* How many of its rotations equal the component at a position. A rotation moves the first trees along the cycle to the end; of k trees there are k rotations, the
  * component itself being one, so the answer is from 1 to k: 3 for the component 3 1 1 1, and 1 for 2 1 2 1. The refusals are those of lethmuok_component_start. */
 int64_t lethmuok_component_turns(const uint8_t *code, size_t code_len, size_t position);
+
+/* How many tables have this code, which may have LETHMUOK_MAX_COUNTED points: of n points from 1 to n!, which for 15 points is 1,307,674,368,000. Over all codes of
+ * n points these numbers make n to the power n. The code's own checks come first, then LETHMUOK_UNCOUNTED. */
+int64_t lethmuok_table_count(const uint8_t *code, size_t code_len);
 
 #ifdef __cplusplus
 }

@@ -2,6 +2,7 @@
 """make_data.py [--write]: makes the files of crates/checks/data anew, from tools/plain_listing.py and tools/plain_model.py. They go to target/checks-data and are
 compared with those in crates/checks/data; with --write they go there. tools/README.md says what each file holds."""
 import filecmp
+import itertools
 import math
 import os
 import sys
@@ -12,8 +13,8 @@ import plain_model as model
 TOP = os.path.join(os.path.dirname(os.path.realpath(__file__)), "..")
 KEPT = os.path.join(TOP, "crates", "checks", "data")
 MADE = KEPT if sys.argv[1:] == ["--write"] else os.path.join(TOP, "target", "checks-data")
-ACCEPT, FIRST, SUCCESSOR, CODE_OF_MAP, MAP_OF_CODE, ISOMORPHISM, CENSUS, PREDECESSOR, SUM, PRODUCT = range(1, 11)
-KINDS = {"length": 0, "last": 1, "none": 2, "refused": 3, "first": 4, "census": 0, "part": 0, "page": 0}
+ACCEPT, FIRST, SUCCESSOR, CODE_OF_MAP, MAP_OF_CODE, ISOMORPHISM, CENSUS, PREDECESSOR, SUM, PRODUCT, TABLE_COUNT = range(1, 12)
+KINDS = {"length": 0, "last": 1, "none": 2, "refused": 3, "first": 4, "census": 0, "part": 0, "page": 0, "number": 0}
 WIDE = 1000
 WIDEST = 10000
 
@@ -104,6 +105,10 @@ def sum_of_codes(a, b, room=WIDE, lengths=(None, None)):
 def product_of_codes(a, b, room=WIDE, lengths=(None, None)):
     inputs = [*map(repeated, (a, b), lengths)]
     return case(PRODUCT, room, *map(stretch, (a, b), lengths), model.product_of_codes(*inputs, room))
+
+
+def table_count(code, length=None):
+    return case(TABLE_COUNT, 0, stretch(code, length), [0, 0], model.table_count(repeated(code, length)))
 
 
 def census(table, room=19):
@@ -198,6 +203,10 @@ def examples():
     lines += [given(sum_of_codes(most, one), "refused", 11), given(product_of_codes(two, most, 0), "refused", 11), given(product_of_codes(most, one, 403), "refused", 8)]
     lines += [given(sum_of_codes([3, 1, 2, 2, 1, 1], []), "refused", 6), given(product_of_codes([], [3, 1, 2, 2, 1, 1]), "refused", 3)]
     lines += [given(sum_of_codes(most, one + [9], 0), "refused", 7), given(product_of_codes(most, [201, 1], 0), "refused", 1)]
+    # paper 7 of document 02: the list of 3 points, no points, and 12 after the code's own checks
+    lines += [given(table_count(code), "number", tables) for code, tables in zip(three, (1, 3, 6, 2, 6, 3, 6))] + [given(table_count(empty), "number", 1)]
+    sixteen = model.first(16, WIDE)[1]
+    lines += [given(table_count(code), "refused", cause) for code, cause in ((sixteen, 12), (most, 12), (sixteen + [1], 7), (sixteen[:-1], 3))]
     # the order of checks
     lines += [refused([1, 1, 1, 1, 128], 3), refused([1, 1, 1, 1, 129, 0], 4), refused([201, 1, 128], 3)]
     lines += [refused([3, 1, 2, 3, 1, 1], 3), refused([3, 1, 2, 3, 1, 1, 1], 5), refused([2, 1, 1, 1, 9], 5)]
@@ -845,6 +854,73 @@ def products_long():
     return at_200(product_of_codes, given, refused) + by_chance(product_of_codes, 40, lambda n: 200 // max(n, 1)) + neutral(product_of_codes, ONE)
 
 
+# ---- numbers of tables
+
+
+def small_counts():
+    """Every code of up to 5 points, the tables of each counted one by one; some of 6 to 8. Over each list the numbers have to make n to the power n."""
+    lines = []
+    for n in range(9):
+        codes = codes_of(n)
+        counts = [model.table_count(code)[1] for code in codes]
+        assert sum(counts) == n**n
+        if n < 6:
+            tables = [model.code_of_map(table, None)[1] for table in itertools.product(range(n), repeat=n)]
+            assert counts == [tables.count(code) for code in codes]
+        lines += [table_count(code) for code in codes[:: (1 if n < 6 else 6 if n == 6 else 30)]]
+    return lines
+
+
+def counts_of_15():
+    """Codes of 15 points with what they look like from: each of the 15! orders of the points gives a table, and as many give the same as this says."""
+    def given(table, symmetries):
+        line = table_count(model.code_of_map(table, WIDE)[1])
+        assert line[-4:-2] == [KINDS["number"], math.factorial(15) // symmetries], line
+        return line
+
+    one, two, three = [1], [2, 1], [3, 1, 1]
+    binary, seven = [max(x - 1, 0) // 2 for x in range(15)], [max(x - 1, 0) // 2 for x in range(7)]
+    lines = [given(path_map(15), 1), given(cycle_map(15), 15), given(star(15), math.factorial(14)), given(list(range(15)), math.factorial(15)), given(binary, 128)]
+    lines += [given(of_trees(*[three] * 5), 160), given(of_trees(*[one, two] * 5), 5), given(of_trees(*[one, one, two] * 3, three), 2)]
+    lines += [given(joined(*[cycle_map(3)] * 5), 120 * 243), given(joined(*[cycle_map(5)] * 3), 750), given(joined(*[cycle_map(k) for k in range(1, 6)]), 120)]
+    lines += [given(joined(*[[1, 0]] * 7, [0]), math.factorial(7) * 128), given(joined(seven, seven, [0]), 2 * 64), given(joined(*[path_map(5)] * 3), 6)]
+    lines += [given(joined(*[of_trees(two, two)] * 3, star(3)), 6 * 8 * 2), given(cycle_map(14) + [0], 1), given(joined(path_map(7), path_map(8)), 1)]
+    return lines
+
+
+def counts_by_chance():
+    """Random maps of 9 to 15 points: any, connected ones, and some of which the components are often equal."""
+    numbers = Numbers(47)
+    codes = [some_code(numbers, n) for n in range(9, 16) for _ in range(8)]
+    for n in range(9, 16):
+        few = [random_map(numbers, 1 + numbers.below(4)) for _ in range(2)]
+        parts = [few[numbers.below(2)] for _ in range(n // 4)]
+        codes.append(model.code_of_map(joined(*parts, star(n - sum(map(len, parts)))), WIDE)[1])
+    return [table_count(code) for code in codes]
+
+
+def refused_counts():
+    """Codes of 16 points and more; every cause of a code's own, of few points and of more, where 12 would be told next."""
+    numbers = Numbers(53)
+    kinds = [path_map, cycle_map, star, lambda n: list(range(n)), lambda n: random_map(numbers, n)]
+    codes = [model.code_of_map(kind(n), WIDE)[1] for n in (16, 17, 31) for kind in kinds]
+    codes += [model.code_of_map(table, WIDE)[1] for table in (path_map(128), star(200), random_map(numbers, 200))] + [model.first(200, WIDE)[1]]
+    lines = [table_count(code) for code in codes]
+    assert all(line[-4:-2] == [KINDS["refused"], 12] for line in lines)
+    faults = [[201, 1], [], [128], [16], [15, 1], [129, 0], [128, 128], [16, 129, 0], [0, 1], [1, 0], [15, 0], [16, 0], [16, 17], [3, 1, 2, 2, 1, 1]]
+    faults += [[16, 1, 2, 15, *[1] * 14, 1], [16, 2, 1, 15, *[1] * 14, 1, 1], [15, 2, 1, 14, *[1] * 13, 1, 1], [16, 2, 1, 1, 1, 14, *[1] * 13], [16, 1, 1, 15, *[1] * 14]]
+    for code in (model.code_of_map(path_map(15), WIDE)[1], model.first(15, WIDE)[1], *codes[:4], codes[-1]):
+        faults += [code[:-1], code[: len(code) // 2], code + [1], code + [128], code + [129, 0]]
+    lines += [table_count(fault) for fault in faults]
+    assert {line[-3] for line in lines if line[-4] == KINDS["refused"]} == {1, 3, 4, 5, 6, 7, 12}
+    return lines + [table_count(pattern, 10000) for pattern in ([0], [1], [128], [16, 1], [200, 1], [129, 0], [15, 1, 1])]
+
+
+def table_counts():
+    lines = small_counts() + counts_of_15() + counts_by_chance() + refused_counts()
+    return [list(line) for line in dict.fromkeys(map(tuple, lines))]
+
+
 # ---- pages
 
 
@@ -956,7 +1032,7 @@ def main():
     files += [("examples", examples()), ("damaged", damaged()), ("damaged_long", damaged_long()), ("reordered", reordered()), ("hostile", hostile())]
     files += [("keystrokes", keystrokes()), ("rooms", rooms()), ("steps", steps()), ("steps_back", steps_back()), ("codes", codes_of_maps()), ("census", censuses())]
     files += [("components", components()), ("pages", pages()), ("pages_long", pages_long()), ("pairs", pairs())]
-    files += [("sums", sums()), ("sums_long", sums_long()), ("products_long", products_long())]
+    files += [("sums", sums()), ("sums_long", sums_long()), ("products_long", products_long()), ("table_counts", table_counts())]
     other = sum(not save(name, lines) for name, lines in files)
     print(f"{len(files)} files in {os.path.relpath(MADE)}, {other} not as in crates/checks/data")
     return 1 if other else 0

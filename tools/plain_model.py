@@ -2,14 +2,16 @@
 of trees, children are all candidate merges that pass the definition's tests, and nothing is fast. tools/make_data.py takes from here what the checks expect.
 
 An answer is a pair: ("length", list of numbers), ("last", None), ("first", None), ("none", None) or ("refused", number of the cause). What has more to say than a
-length has a word of its own: "census", "part" and "page".
+length has a word of its own: "census", "part", "page" and "number".
 """
 import functools
+import math
 
 from plain_listing import components_of_map, least_rotation, merges, parent, parts, tree_code
 
-COUNT, IMAGE, TRUNCATED, NUMBER_FORM, SIZES, NOT_CANONICAL, TRAILING, ROOM, POSITION, WANTED, TOO_LARGE = range(1, 12)
+COUNT, IMAGE, TRUNCATED, NUMBER_FORM, SIZES, NOT_CANONICAL, TRAILING, ROOM, POSITION, WANTED, TOO_LARGE, UNCOUNTED = range(1, 13)
 MOST_WANTED = 1000
+MOST_COUNTED = 15
 
 
 class Refused(Exception):
@@ -355,6 +357,44 @@ def table_of_arrows(arrows):
     return [numbers[arrows[name]] for name in arrows]
 
 
+# ---- renamings that leave a map as it is
+
+
+def walk(table, x):
+    """The points that x leads to, itself first, up to where one would come again."""
+    seen = [x]
+    while table[seen[-1]] not in seen:
+        seen.append(table[seen[-1]])
+    return seen
+
+
+def marked_form(table, marks):
+    """What is left of a map whose points have marks if their names are forgotten: two such maps have one form exactly if a renaming leads from one to the other and every
+    mark is kept."""
+    cycles = [seen for seen in (walk(table, x) for x in range(len(table))) if table[seen[-1]] == seen[0] == min(seen)]
+    hanging = set(range(len(table))).difference(*cycles)
+
+    def tree(x):
+        return marks[x], sorted(tree(y) for y in hanging if table[y] == x)
+
+    def component(around):
+        trees = [tree(x) for x in around]
+        return min(trees[i:] + trees[:i] for i in range(len(trees)))
+
+    return sorted(map(component, cycles))
+
+
+def renamings(table):
+    """How many renamings leave a map as it is: those that keep the first points are told apart by where the next point goes, and that is to any point which looks like it
+    while the first ones are marked. So the numbers of these points multiply."""
+    count, marks = 1, [0] * len(table)
+    for x in range(len(table)):
+        forms = {y: marked_form(table, marks[:y] + [x + 1] + marks[y + 1 :]) for y in range(x, len(table))}
+        count *= sum(form == forms[x] for form in forms.values())
+        marks[x] = x + 1
+    return count
+
+
 # ---- the entries: what each answers, given the room of the lent output
 
 
@@ -478,3 +518,15 @@ def component(code, position):
         return "refused", cause.args[0]
     after = [b for c in system[position:] for b in written_component(c)]
     return "part", (len(code) - len(after), turns(system[position]), written_component(system[position]))
+
+
+def table_count(code):
+    """How many tables have this code: a map has as many names for its points as there are orders, and each table comes up once for each renaming that leaves it. Or a
+    refusal, 12 coming last."""
+    try:
+        table = map_of_system(accepted(code))
+        if len(table) > MOST_COUNTED:
+            raise Refused(UNCOUNTED)
+    except Refused as cause:
+        return "refused", cause.args[0]
+    return "number", math.factorial(len(table)) // renamings(table)

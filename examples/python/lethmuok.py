@@ -26,6 +26,7 @@ CAUSES = {
     9: "the code has no component at that position",
     10: "more than 1,000 codes are wanted",
     11: "the result has more than 200 points",
+    12: "the code has more than 15 points, and its tables are not counted",
 }
 _LAST = -100
 _NONE = -101
@@ -185,3 +186,8 @@ def component(code, position):
 def component_turns(code, position):
     """How many of its rotations equal the component at a position: from 1 to the number of its trees along the cycle."""
     return _call("lethmuok_component_turns", _given(code), _count(position))
+
+
+def table_count(code):
+    """How many tables of as many points have this code, which may have 15 points: over all codes of n points these numbers make n to the power n."""
+    return _call("lethmuok_table_count", _given(code))

@@ -30,10 +30,11 @@ causes! {
     Position = 9, "the code has no component at that position";
     Wanted = 10, "more than 1,000 codes are wanted";
     TooLarge = 11, "the result has more than 200 points";
+    Uncounted = 12, "the code has more than 15 points, and its tables are not counted";
 }
 
-/// What every function answers but `predecessor`, `page` and `component`. A result fills the first places of its buffer; with another reply than a number all buffers are
-/// kept.
+/// What every function answers but `predecessor`, `page`, `component` and `table_count`. A result fills the first places of its buffer; with another reply than a number
+/// all buffers are kept.
 #[derive(Clone, Copy, Debug, PartialEq, Eq)]
 pub enum Reply {
     /// the length of what was written, or the number that was asked for
@@ -62,10 +63,12 @@ pub struct Page {
     pub bytes: usize,
 }
 
-/// 1,000 bytes hold every code, 19 entries every census. No more than 1,000 codes may be wanted, which `MAX_WANTED * MAX_CODE` bytes hold.
+/// 1,000 bytes hold every code, 19 entries every census. No more than 1,000 codes may be wanted, which `MAX_WANTED * MAX_CODE` bytes hold. Tables are counted of codes of
+/// at most 15 points.
 pub const MAX_CODE: usize = 1000;
 pub const MAX_ENTRIES: usize = 19;
 pub const MAX_WANTED: usize = 1000;
+pub const MAX_COUNTED: usize = 15;
 
 mod c {
     #[repr(C)]
@@ -91,6 +94,7 @@ mod c {
         pub fn lethmuok_component_start(code: *const u8, code_len: usize, position: usize) -> i64;
         pub fn lethmuok_component_end(code: *const u8, code_len: usize, position: usize) -> i64;
         pub fn lethmuok_component_turns(code: *const u8, code_len: usize, position: usize) -> i64;
+        pub fn lethmuok_table_count(code: *const u8, code_len: usize) -> i64;
     }
 }
 
@@ -198,4 +202,12 @@ pub fn component(code: &[u8], position: usize) -> Result<&[u8], Refusal> {
 /// How many of its rotations equal the component at a position: from 1 to the number of its trees along the cycle.
 pub fn component_turns(code: &[u8], position: usize) -> Reply {
     unsafe { c::lethmuok_component_turns(code.as_ptr(), code.len(), position) }.into()
+}
+
+/// How many tables of as many points have this code, which may have `MAX_COUNTED` points: over all codes of n points these numbers make n to the power n.
+pub fn table_count(code: &[u8]) -> Result<u64, Refusal> {
+    match unsafe { c::lethmuok_table_count(code.as_ptr(), code.len()) } {
+        tables if tables >= 0 => Ok(tables as u64),
+        other => Err(refusal(-other).expect("the library has no other answers")),
+    }
 }

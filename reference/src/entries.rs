@@ -1,10 +1,11 @@
 //! The entries, each with its order of checks (document 01, "Refusing"; document 02).
 
 use crate::component::Component;
+use crate::count::tables;
 use crate::map::{checked, cycle_lengths, height as height_of, in_pairs, map_of_system, side_by_side, system_of_map};
 use crate::system::{accepted, predecessor as previous, successor as next};
 use crate::written::write;
-use crate::{Cause, MOST_POINTS, MOST_WANTED};
+use crate::{Cause, MOST_COUNTED, MOST_POINTS, MOST_WANTED};
 
 /// The reply of a successor entry to the last code of its count.
 pub const LAST: i64 = -100;
@@ -25,8 +26,12 @@ fn put(result: &[u8], out: &mut [u8]) -> Result<i64, Cause> {
     Ok(result.len() as i64)
 }
 
+fn points(system: &[Component]) -> usize {
+    system.iter().map(Component::points).sum()
+}
+
 pub fn accept(code: &[u8]) -> i64 {
-    reply(accepted(code).map(|system| system.iter().map(Component::points).sum::<usize>() as i64))
+    reply(accepted(code).map(|system| points(&system) as i64))
 }
 
 pub fn first(n: usize, out: &mut [u8]) -> i64 {
@@ -158,4 +163,8 @@ pub fn component_end(code: &[u8], position: usize) -> i64 {
 
 pub fn component_turns(code: &[u8], position: usize) -> i64 {
     reply(accepted(code).and_then(|system| system.get(position).map(|component| component.turns() as i64).ok_or(Cause::Position)))
+}
+
+pub fn table_count(code: &[u8]) -> i64 {
+    reply(accepted(code).and_then(|system| if points(&system) > MOST_COUNTED { Err(Cause::Uncounted) } else { Ok(tables(&system) as i64) }))
 }

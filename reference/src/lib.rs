@@ -8,10 +8,13 @@
 //! The step back came later, and its author had read the notes after which the engine's is made; `tools/plain_model.py` looks for it by the step forward alone.
 //! Sum and product came later, too; their author had read the definitions, and numbers the points of a result otherwise than these do.
 //! So did the turns of a component; they are counted over all rotations, and share nothing with the test for the least one.
+//! The number of tables came last; its author knew by which formula the engine counts, and hands out names in its place.
 //!
-//! A reply is a length or n, minus the number of the cause of a refusal, or one of [`LAST`], [`NONE`] and [`FIRST`]; that of a page is two numbers, [`PageReply`].
+//! A reply is a length, n or another number that was asked for, minus the number of the cause of a refusal, or one of [`LAST`], [`NONE`] and [`FIRST`]; that of a page is
+//! two numbers, [`PageReply`].
 
 mod component;
+mod count;
 mod entries;
 mod generation;
 mod map;
@@ -37,6 +40,7 @@ pub enum Cause {
     Position = 9,
     Wanted = 10,
     TooLarge = 11,
+    Uncounted = 12,
 }
 
 /// The most points that a map may have.
@@ -44,3 +48,6 @@ pub const MOST_POINTS: usize = 200;
 
 /// The most codes that may be wanted of a page.
 pub const MOST_WANTED: usize = 1000;
+
+/// The most points of a code whose tables are counted.
+pub const MOST_COUNTED: usize = 15;

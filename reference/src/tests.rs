@@ -1,4 +1,4 @@
-//! The examples and totals of document 01, and the pages, steps back, sums, products and turns of document 02.
+//! The examples and totals of document 01, and the pages, steps back, sums, products, turns and numbers of tables of document 02.
 
 use crate::*;
 
@@ -426,5 +426,82 @@ fn turns_divide_the_trees_and_grow_with_copies() {
         let copies = 1 + random(state, 200 / points);
         let longer = [number(copies * points), number(1), number(copies * k), trees.repeat(copies)].concat();
         assert_eq!(component_turns(&longer, 0), copies as i64 * turns, "{longer:?}");
+    }
+}
+
+/// 15!, the number of tables of a pattern of 15 points that looks like itself in one way only.
+const ALL_ORDERS: i64 = 1_307_674_368_000;
+
+#[test]
+fn table_counts() {
+    assert_eq!(listing(3).iter().map(|code| table_count(code)).collect::<Vec<_>>(), [1, 3, 6, 2, 6, 3, 6]);
+    assert_eq!((table_count(&[0, 0]), table_count(&[1, 1, 1, 1])), (1, 1));
+    let (point, two, three): (&[u8], &[u8], &[u8]) = (&[1], &[2, 1], &[3, 1, 1]);
+    let cases = [
+        // a star, a cycle, and paths into a fixed point and into a cycle
+        (star(15), 15),
+        (component_of(&[point; 15]), ALL_ORDERS / 15),
+        (component_of(&[&[15, 14, 13, 12, 11, 10, 9, 8, 7, 6, 5, 4, 3, 2, 1]]), ALL_ORDERS),
+        (component_of(&[point, &[14, 13, 12, 11, 10, 9, 8, 7, 6, 5, 4, 3, 2, 1]]), ALL_ORDERS),
+        // equal branches, equal branches of equal branches, and periods
+        (component_of(&[&[15, 7, 3, 1, 1, 3, 1, 1, 7, 3, 1, 1, 3, 1, 1]]), ALL_ORDERS / 128),
+        (component_of(&[three; 5]), ALL_ORDERS / (5 * 32)),
+        (component_of(&[point, two].repeat(5)), ALL_ORDERS / 5),
+        // equal components
+        (written(|out| first(15, out)).unwrap(), 1),
+        ([&[15, 5][..], &[3, 1, 1, 1].repeat(5)].concat(), ALL_ORDERS / (120 * 243)),
+        ([&[15, 3][..], &[5, 1, 1, 1, 1, 1].repeat(3)].concat(), ALL_ORDERS / (6 * 125)),
+    ];
+    for (code, tables) in cases {
+        assert_eq!((accept(&code), table_count(&code)), (15, tables), "{code:?}");
+    }
+}
+
+#[test]
+fn refused_table_counts() {
+    let (good, point): (_, &[u8]) = (star(16), &[1]);
+    let cases: [(&[u8], i64); 11] = [
+        (&good, -12),
+        (&star(17), -12),
+        (&component_of(&[point; 16]), -12),
+        (&component_of(&[point; 200]), -12),
+        // the code's own checks come first
+        (&[201, 1], -1),
+        (&good[..18], -3),
+        (&[16, 129, 0], -4),
+        (&[16, 0], -5),
+        (&[16, 1, 2, 15, 14, 13, 12, 11, 10, 9, 8, 7, 6, 5, 4, 3, 2, 1, 1], -6),
+        (&[&good[..], &[1]].concat(), -7),
+        (&[3, 1, 2, 2, 1, 1], -6),
+    ];
+    for (code, reply) in cases {
+        assert_eq!(table_count(code), reply, "{code:?}");
+    }
+}
+
+/// Every table of n points.
+fn every_table(n: usize) -> impl Iterator<Item = Vec<u8>> {
+    (0..n.pow(n as u32)).map(move |number| (0..n).map(|x| (number / n.pow(x as u32) % n) as u8).collect())
+}
+
+#[test]
+fn table_counts_are_counts_of_tables() {
+    for n in 0..=7 {
+        let mut found = std::collections::HashMap::new();
+        for table in every_table(n) {
+            *found.entry(written(|out| code_of_map(&table, out)).unwrap()).or_insert(0) += 1;
+        }
+        let codes = listing(n);
+        assert_eq!(found.len(), codes.len());
+        for code in codes {
+            assert_eq!(table_count(&code), found[&code], "{code:?}");
+        }
+    }
+}
+
+#[test]
+fn table_counts_make_all_tables() {
+    for n in 0..=10 {
+        assert_eq!(listing(n).iter().map(|code| table_count(code)).sum::<i64>(), (n as i64).pow(n as u32));
     }
 }

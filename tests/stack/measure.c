@@ -1,4 +1,4 @@
-/* Measures how much stack each entry takes: it is called on a stack of its own that is painted before, on maps of 200 points and their codes, and the deepest
+/* Measures how much stack each entry takes: it is called on a stack of its own that is painted before, on maps of 200 points and fewer and their codes, and the deepest
  * byte that has lost its paint is looked for. Prints the most for each entry, and fails where that is not less than the header says. */
 #include <stdio.h>
 #include <string.h>
@@ -26,6 +26,7 @@ static void longest_cycle(void) { lethmuok_longest_cycle(table, table_len); }
 static void component_start(void) { lethmuok_component_start(code, code_len, 0); }
 static void component_end(void) { lethmuok_component_end(code, code_len, 0); }
 static void component_turns(void) { lethmuok_component_turns(code, code_len, 0); }
+static void table_count(void) { lethmuok_table_count(code, code_len); }
 
 /* The code with a neutral one on either side, so that the result has as many points, and with itself. */
 static void with_both_sides(int64_t of(const uint8_t *, size_t, const uint8_t *, size_t, uint8_t *, size_t), const uint8_t *neutral, size_t neutral_len)
@@ -53,6 +54,7 @@ static struct entry {
     {"accept", accept, 0}, {"first", first, 0}, {"successor", successor, 0}, {"predecessor", predecessor, 0}, {"page", page, 0}, {"code_of_map", code_of_map, 0},
     {"map_of_code", map_of_code, 0}, {"sum", sum, 0}, {"product", product, 0}, {"isomorphism", isomorphism, 0}, {"census", census, 0}, {"height", height, 0},
     {"longest_cycle", longest_cycle, 0}, {"component_start", component_start, 0}, {"component_end", component_end, 0}, {"component_turns", component_turns, 0},
+    {"table_count", table_count, 0},
 };
 enum { ENTRIES = sizeof entries / sizeof entries[0] };
 
@@ -119,6 +121,8 @@ int main(void)
 {
     shapes(200);
     shapes(128);
+    /* the most points of which tables are counted */
+    shapes(LETHMUOK_MAX_COUNTED);
     for (int i = 0; i < RANDOM_MAPS; i++) {
         unsigned n = 1 + below(200), kind = below(3);
         for (unsigned x = 0; x < n; x++)

@@ -3,8 +3,8 @@
 pub mod maps;
 pub mod random;
 
-/// The entries of one implementation. A reply is a length or n, minus the number of the cause of a refusal, [`LAST`], [`NONE`] or [`FIRST`]; that of a page is a
-/// [`PageReply`].
+/// The entries of one implementation. A reply is a length, n or another number that was asked for, minus the number of the cause of a refusal, [`LAST`], [`NONE`] or
+/// [`FIRST`]; that of a page is a [`PageReply`].
 pub struct Side {
     pub name: &'static str,
     pub accept: fn(&[u8]) -> i64,
@@ -23,9 +23,10 @@ pub struct Side {
     pub component_start: fn(&[u8], usize) -> i64,
     pub component_end: fn(&[u8], usize) -> i64,
     pub component_turns: fn(&[u8], usize) -> i64,
+    pub table_count: fn(&[u8]) -> i64,
 }
 
-pub use reference::{PageReply, FIRST, LAST, MOST_WANTED, NONE};
+pub use reference::{PageReply, FIRST, LAST, MOST_COUNTED, MOST_WANTED, NONE};
 
 /// Bytes that hold every page.
 pub const EVERY_PAGE: usize = 1_000_000;
@@ -41,6 +42,9 @@ pub const HAS_SUM: bool = cfg!(not(without_sum));
 
 /// The same of the turns that the component reader tells.
 pub const HAS_TURNS: bool = cfg!(not(without_component_turns));
+
+/// The same of the entry `table_count`.
+pub const HAS_TABLE_COUNT: bool = cfg!(not(without_table_count));
 
 pub const REFERENCE: Side = Side {
     name: "reference",
@@ -60,6 +64,7 @@ pub const REFERENCE: Side = Side {
     component_start: reference::component_start,
     component_end: reference::component_end,
     component_turns: reference::component_turns,
+    table_count: reference::table_count,
 };
 
 /// The C prototypes of the static library: a slice is a pointer, never null, and a count.
@@ -87,6 +92,8 @@ mod c {
         pub fn lethmuok_component_end(code: *const u8, len: usize, position: usize) -> i64;
         #[cfg(not(without_component_turns))]
         pub fn lethmuok_component_turns(code: *const u8, len: usize, position: usize) -> i64;
+        #[cfg(not(without_table_count))]
+        pub fn lethmuok_table_count(code: *const u8, len: usize) -> i64;
     }
 }
 
@@ -126,6 +133,10 @@ pub const ENGINE: Side = Side {
     component_turns: |code, position| unsafe { c::lethmuok_component_turns(code.as_ptr(), code.len(), position) },
     #[cfg(without_component_turns)]
     component_turns: |_, _| panic!("this library has no component_turns"),
+    #[cfg(not(without_table_count))]
+    table_count: |code| unsafe { c::lethmuok_table_count(code.as_ptr(), code.len()) },
+    #[cfg(without_table_count)]
+    table_count: |_| panic!("this library has no table_count"),
 };
 
 /// What an entry writes into a buffer that holds every result, or its reply.

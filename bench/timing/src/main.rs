@@ -7,7 +7,7 @@ mod labelg;
 mod work;
 
 use clock::own_seconds;
-use sides::{Side, ENGINE, HAS_PAGE, HAS_PREDECESSOR, HAS_SUM, HAS_TURNS, REFERENCE};
+use sides::{Side, ENGINE, HAS_PAGE, HAS_PREDECESSOR, HAS_SUM, HAS_TABLE_COUNT, HAS_TURNS, REFERENCE};
 use work::Work;
 
 /// Each work is repeated so often, what is compared taking turns.
@@ -85,6 +85,9 @@ fn main() {
     table("Where the components of codes of 200 points begin", work::starts_of_components());
     if HAS_TURNS {
         table("Turns of the components of codes of 200 points", work::turns_of_components());
+    }
+    if HAS_TABLE_COUNT {
+        table("Number of tables of codes of 15 points", work::table_counts());
     }
     table("Other entries on random maps of 200 points", work::others());
     if let Some(file) = std::env::args().nth(1) {

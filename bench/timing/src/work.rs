@@ -1,8 +1,8 @@
 //! The works that are timed.
 
-use sides::maps::{is_isomorphism, shuffled, uniform, Kind, KINDS};
+use sides::maps::{is_isomorphism, shuffled, uniform, Kind, KINDS, PERIODIC};
 use sides::random::Random;
-use sides::{code_of, written, Side, ENGINE, EVERY_PAGE, MOST_WANTED, REFERENCE};
+use sides::{code_of, written, Side, ENGINE, EVERY_PAGE, MOST_COUNTED, MOST_WANTED, REFERENCE};
 
 /// A work: what one side does of it, in so many calls, and whether both sides get the same.
 pub struct Work {
@@ -296,6 +296,23 @@ pub fn starts_of_components() -> Vec<Work> {
 
 pub fn turns_of_components() -> Vec<Work> {
     read_codes().into_iter().map(|(name, codes)| reads(format!("turns: {name}"), |side| side.component_turns, &codes)).collect()
+}
+
+/// The number of tables of each of these codes. It is compared as it is, since it is more than any output has places.
+fn counts(name: &str, codes: Vec<Vec<u8>>) -> Work {
+    let timed = a_thousand(calls(&format!("table count: {name}"), codes.clone(), |side, code, _| (side.table_count)(code), equal));
+    Work { agree: Box::new(move || codes.iter().all(|code| (ENGINE.table_count)(code) == (REFERENCE.table_count)(code))), ..timed }
+}
+
+/// Of each kind of map, two equal components, and what it takes to refuse a code of 200 points.
+pub fn table_counts() -> Vec<Work> {
+    let codes = |(_, kind): Kind, n: usize| {
+        let random = &mut Random::new(5);
+        (0..100).map(|_| code_of(&kind(n, random))).collect::<Vec<_>>()
+    };
+    let twins = [&[15, 3, 1, 1][..], &[1, 7, 3, 1, 1, 3, 1, 1].repeat(2)].concat();
+    let others = [counts("a fixed point and two equal trees of 7", vec![twins]), counts("random, 200 points, refused", codes(KINDS[0], POINTS))];
+    KINDS.into_iter().chain(PERIODIC).map(|kind| counts(kind.0, codes(kind, MOST_COUNTED))).chain(others).collect()
 }
 
 /// The length of a hostile input.

@@ -3,3 +3,4 @@ pub mod Fitting
 pub mod Measures
 pub mod Parts
 pub mod Pages
+pub mod CountFits

@@ -5,16 +5,19 @@ use signed_replies::end_number;
 use signed_replies::isomorphism_number;
 use signed_replies::page_numbers;
 use signed_replies::predecessor_number;
+use signed_replies::quantity_number;
 use signed_replies::reply_number;
 use signed_replies::start_number;
 use signed_replies::successor_number;
 use signed_replies::turns_number;
 ghost use denote.Ref.{now};
 ghost use mathlib.Core.Path.{_≡_};
-ghost use Rattle.patterns.specs.Entry.{acceptOf, firstOf, successorOf, codeOfMap, mapOfCode, heightOf, longestOf};
+ghost use Rattle.patterns.specs.Entry.{answer, acceptOf, firstOf, successorOf, codeOfMap, mapOfCode, heightOf, longestOf};
+ghost use Rattle.patterns.specs.Replies.{Answer.length-is};
 ghost use Rattle.patterns.specs.Page.{pageOf};
 ghost use Rattle.patterns.specs.Predecessor.{predecessorOf};
 ghost use Rattle.patterns.specs.Arithmetic.{sumOfCodes, productOfCodes};
+ghost use Rattle.patterns.specs.TableCount.{tableCount};
 ghost use Rattle.patterns.specs.SignedReplies.{signedOf, Reported, PageReported, IsomorphismReported, CensusReported, componentStart, componentEnd, componentTurns};
 
 // n, or the refusal of a code.
@@ -87,6 +90,14 @@ pub extern "C" fn lethmuok_product(first: &[u8], second: &[u8], out: &mut [u8]) 
     ensures { λ r. ⌜ Reported (productOfCodes (now (first .entry)) (now (second .entry))) (now (out .entry)) r (now (out .exit)) ⌝ }
 {
     reply_number(engine::product(first, second, out))
+}
+
+// How many tables have `code` [document 02, paper 7].
+#[no_mangle]
+pub extern "C" fn lethmuok_table_count(code: &[u8]) -> i64
+    ensures { λ r. ⌜ r ≡ signedOf (answer (tableCount (now (code .entry))) length-is) ⌝ }
+{
+    quantity_number(engine::table_count(code))
 }
 
 // Writes an isomorphism from the map `f` to the map `g`.

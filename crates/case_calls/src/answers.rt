@@ -1,6 +1,7 @@
 // What an entry answered: one kind and one number for the replies of all entries.
 use patterns::Isomorphism;
 use patterns::Predecessor;
+use patterns::Quantity;
 use patterns::Refusal;
 use patterns::Reply;
 use patterns::Successor;
@@ -15,7 +16,7 @@ pub const REFUSED: usize = 3;
 
 pub const FIRST_OF_LIST: usize = 4;
 
-// The kind, and the length or the number of the cause.
+// The kind, and the length, another number that was asked for, or the number of the cause.
 pub struct Answer {
     pub kind: usize,
     pub value: usize,
@@ -39,6 +40,13 @@ pub fn of_reply(reply: Reply) -> Answer {
     match reply {
         Reply::Length(k) => of_length(k),
         Reply::Refused(cause) => of_refusal(cause),
+    }
+}
+
+pub fn of_quantity(reply: Quantity) -> Answer {
+    match reply {
+        Quantity::Number(k) => of_length(k as usize),
+        Quantity::Refused(cause) => of_refusal(cause),
     }
 }
 

@@ -24,6 +24,8 @@ pub const SUM: usize = 9;
 
 pub const PRODUCT: usize = 10;
 
+pub const TABLE_COUNT: usize = 11;
+
 // More room than any output takes.
 const WIDE: usize = 2000;
 
@@ -77,6 +79,9 @@ fn call_on_codes(entry: usize, first: &[u8], second: &[u8], out: &mut [u8]) -> A
     }
     if entry == PRODUCT {
         return answers::of_reply(engine::product(first, second, out));
+    }
+    if entry == TABLE_COUNT {
+        return answers::of_quantity(engine::table_count(first));
     }
     unknown(entry)
 }

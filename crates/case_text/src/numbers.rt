@@ -9,12 +9,12 @@ pub struct Taken {
     pub next: usize,
 }
 
-// The value with one more digit; from 100,000 on it stays.
+// The value with one more digit; from 1,000,000,000,000 on it stays. So it has up to 13 digits, and a number of tables is read whole.
 fn more(value: usize, digit: u8) -> usize {
     if digit < 48 {
         return value;
     }
-    if 100000 <= value {
+    if 1000000000000 <= value {
         return value;
     }
     value * 10 + wide(digit - 48)

@@ -1,17 +1,13 @@
 -- The part that shows the component at a position of a system in memory: its two ends in the written code, and how many of its rotations equal it.
 use mathlib.Core.Path.{_≡_, ap, sym, _∙_}
-use mathlib.Core.Bool.{true, _&&_}
 use mathlib.Core.List.{List, []}
 use Prim.Native.Nat.{ℕ, _+_, _-_, _≤_, _<_}
 use native.Mathlib.Omega.{arith}
 use borrow.Author.Tests.{lt-ltb, le-ltb}
 use lib.ListN.{length, take, drop, getD}
-use Rattle.lists.specs.Order.{atMost}
-use Rattle.lists.specs.Select.{each}
-use Rattle.lists.proofs.Tests.{cond-true, cond-false, and-true, each-member, no-both}
+use Rattle.lists.proofs.Tests.{cond-true, cond-false, each-member}
 use Rattle.lists.proofs.Places.{in-index}
-use Rattle.patterns.specs.Tree.{validTree}
-use Rattle.patterns.specs.Component.{Component, flat, compareComponent, rotations, rotationSymmetry, nonempty, validComponent}
+use Rattle.patterns.specs.Component.{Component, flat, rotationSymmetry, validComponent}
 use Rattle.patterns.specs.System.{System}
 use Rattle.patterns.specs.Written.{componentNumbers, bytes}
 use Rattle.patterns.specs.Reading.{done}
@@ -19,29 +15,17 @@ use Rattle.patterns.specs.Replies.{PartAnswer, part-is, part-refused}
 use Rattle.patterns.specs.Entry.{partIn, partAnswered, componentIn}
 use Rattle.component_theory.proofs.CanonicalComponents.{canonical-valid}
 use Rattle.memory.specs.Memory.{Holds, HeldSystem}
+use Rattle.memory.specs.HeldCode.{HeldValid, HeldCanonical}
 use Rattle.memory.proofs.Parts.{held-count}
-use Rattle.components.specs.RotationTest.{rotationTest}
-use Rattle.components.specs.declared.Rotation.{Rotation}
-use Rattle.components.specs.declared.Rotation.the-variants.{Lesser}
-use Rattle.components.proofs.RotationAnswers.{told-lesser}
 use Rattle.form_theory.proofs.Numbers.{bytes-length}
 use Rattle.form_theory.proofs.Stretches.{stretch-end}
 use Rattle.writing.specs.Passed.{Passed}
 use Rattle.writing.proofs.Locating.{next-held, part-is-flat}
 use Rattle.writing.proofs.CanonicalHeld.{canonical-held}
-use Rattle.component_parts.specs.HeldCode.{HeldValid, HeldCanonical}
 
 -- a component takes few bytes
 pub few-bytes : {s : List ℕ} (w : HeldValid s) (n : ℕ) → ((c : Component) → s ≡ flat c → n ≡ length (bytes (componentNumbers c))) → n ≤ 402
 few-bytes w n f = let c = w .trees in omega (arith, f c (w .is), bytes-length (componentNumbers c), ap length (w .is), w .small)
-
--- no rotation of a valid component is less
-valid-least : (c : Component) → validComponent c ≡ true → each (atMost compareComponent c) (rotations c) ≡ true
-unfolding validComponent
-valid-least c v = (and-true (nonempty c && each validTree c) (each (atMost compareComponent c) (rotations c)) v) .1
-
-pub never-lesser : {s : List ℕ} (w : HeldValid s) {r : Rotation} → ((c : Component) → s ≡ flat c → r ≡ rotationTest c) → r ≡ Lesser → ⊥
-never-lesser w f e = let c = w .trees in no-both (valid-least c (w .valid)) (told-lesser c (f c (w .is)) e)
 
 -- there is no component of that position
 pub not-located : {sizes trees : List ℕ} (position : ℕ) → length sizes ≤ position → (S : System) → Holds S sizes trees

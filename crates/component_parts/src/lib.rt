@@ -19,7 +19,7 @@ ghost use Rattle.patterns.specs.Written.{bytes as bytesOf, componentNumbers};
 ghost use Rattle.patterns.specs.Replies.{partAnswer, PartAnswer.part-is};
 ghost use Rattle.patterns.specs.Entry.{componentIn, componentOf, partAnswered, Shown};
 ghost use Rattle.memory.specs.Memory.{Holds};
-ghost use Rattle.component_parts.specs.HeldCode.{HeldValid, HeldCanonical};
+ghost use Rattle.memory.specs.HeldCode.{HeldValid, HeldCanonical};
 
 // The part of a code from `start` on that shows a component. No rotation of the component is less, so the second arm is never taken.
 fn part_from(component: &[u8], start: usize) -> Stretch

@@ -17,20 +17,21 @@ use Rattle.patterns.specs.System.{System, weight, canonical, codes, compareSyst
 use Rattle.patterns.specs.Table.{image, isTable, systemOfTable}
 use Rattle.patterns.specs.MapOf.{mapOf}
 use Rattle.patterns.specs.Isomorphism.{Isomorphism, tables}
+use Rattle.patterns.specs.TableCount.{tablesWith}
 use Rattle.patterns.proofs.Trees.{compareSystem-lawful}
 use Rattle.system_theory.proofs.Codes.{codes-different, codes-complete}
 use Rattle.map_theory.proofs.MapOf.{length-mapOf, mapOf-table}
 use Rattle.map_theory.proofs.PointsOnce.{table-member, table-of-members, image-of-map, perm-below, perm-place, place-image, isomorphism-of-perm}
 use Rattle.map_theory.proofs.Isomorphisms.{table-below, table-read, isomorphism-perm}
 use Rattle.map_theory.proofs.Theorems.{table-canonical, table-weight, canonical-system-unique}
-use Rattle.counting_theory.specs.Symmetries.{factorial, symmetries, tablesWith}
+use Rattle.counting_theory.specs.Symmetries.{factorial, symmetries}
 use Rattle.counting_theory.proofs.Exactly.{Exactly, exactly-unique, exactly-same, exactly-one, exactly-keep, exactly-pairs}
 use Rattle.counting_theory.proofs.Orderings.{exactly-orderings}
 use Rattle.counting_theory.proofs.TableLists.{length-tables, in-tables, of-tables, tables-nodup, copies-once}
 use Rattle.counting_theory.proofs.CountedIsomorphisms.{exactly-isomorphisms}
 
 -- f is the table of a map of n points
-record PointTable (n : ℕ) (f : List ℕ) : Type 0 where
+pub record PointTable (n : ℕ) (f : List ℕ) : Type 0 where
   pub points : length f ≡ n
   pub inside : isTable f ≡ true
 
@@ -66,11 +67,11 @@ tables-of-codes n =
     ∙ length-tables n n
 
 -- f is a table of n points with the system S
-record Has (n : ℕ) (S : System) (f : List ℕ) : Type 0 where
+pub record Has (n : ℕ) (S : System) (f : List ℕ) : Type 0 where
   pub table : PointTable n f
   pub code : systemOfTable f ≡ S
 
-exactly-tables : (n : ℕ) (S : System) → Exactly (Has n S) (tablesWith n S)
+pub exactly-tables : (n : ℕ) (S : System) → Exactly (Has n S) (tablesWith n S)
 unfolding tablesWith
 exactly-tables n S =
     exactly-same

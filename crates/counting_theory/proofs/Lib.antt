@@ -8,6 +8,8 @@ pub mod CyclePlants
 pub mod ShownSystems
 pub mod CountedIsomorphisms
 pub mod CountedTables
-pub mod TreeSymmetries
+pub mod Automorphisms
+pub mod Arrangements
 pub mod SymmetryBounds
+pub mod SmallSymmetries
 pub mod SymmetryExamples

@@ -2,8 +2,8 @@
 use mathlib.Core.Path.{_≡_, subst}
 use mathlib.Core.Bool.{cond}
 use mathlib.Core.List.{List, [], _∷_, _++_}
-use Prim.Native.Nat.{ℕ, zero, suc, _+_, _-_, _*_, _≤_}
-use native.Mathlib.Nat.{add-zero, add-suc, zero-add, suc-add, one-mul, mul-assoc, mul-le-mul, le-mul-of-pos-right, mul-comm, le-refl, le-trans}
+use Prim.Native.Nat.{ℕ, zero, suc, _+_, _-_, _*_, _≤_, _<_}
+use native.Mathlib.Nat.{add-zero, add-suc, zero-add, suc-add, one-mul, mul-assoc, mul-le-mul, le-mul-of-pos-right, mul-comm, mul-pos, le-refl, le-trans}
 use native.Mathlib.Omega.{arith}
 use Rattle.lists.specs.Order.{same}
 use Rattle.lists.proofs.Tests.{by-test}
@@ -30,7 +30,7 @@ factorial-add zero b = rw (zero-add b, one-mul (factorial b)) (le-refl (factoria
 factorial-add (suc a) b =
     rw (suc-add a b, mul-assoc (suc a) (factorial a) (factorial b)) (mul-le-mul {n₁ = suc a} {n₂ = suc (a + b)} (omega arith) (factorial-add a b))
 
-copies-points : (u : Tree) (l : List Tree) → copies compareTree u l ≤ points l
+pub copies-points : (u : Tree) (l : List Tree) → copies compareTree u l ≤ points l
 copies-points u l =
     total-mono (λ t. cond (same compareTree u t) 1 0) size l
     (λ t m. by-test (same compareTree u t) (λ e. rw e (size-positive t)) (λ e. rw e (omega arith)))
@@ -55,3 +55,9 @@ product-bound (t ∷ c) =
     let k = points (branches t) in
     let fewer : k + points c ≤ size t + points c = omega (arith, size-branches t) in
     le-trans (mul-le-mul (tree-bound t) (product-bound c)) (le-trans (factorial-add k (points c)) (factorial-le (k + points c) (size t + points c) fewer))
+
+pub tree-positive : (t : Tree) → 0 < treeSymmetries t
+unfolding treeSymmetries
+tree-positive point = omega arith
+tree-positive (merge t u) =
+    mul-pos (mul-pos {m = suc (copies compareTree u (branches t))} (omega arith) (tree-positive u)) (tree-positive t)

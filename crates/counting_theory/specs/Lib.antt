@@ -1,2 +1,2 @@
--- Symmetries of trees, components and systems, and how many tables have a system.
+-- Symmetries of trees, components and systems.
 pub mod Symmetries

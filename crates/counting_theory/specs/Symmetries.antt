@@ -1,16 +1,13 @@
--- How many isomorphisms a tree, a component and a system have to themselves, part by part; and how many tables have a system, of which document 02, paper 7, speaks.
--- No promise cites these definitions.
+-- How many isomorphisms a tree, a component and a system have to themselves, part by part. No promise of an entry cites these definitions: document 02, paper 7, defines
+-- the number of tables with a code as a count of tables.
 use mathlib.Core.Bool.{cond}
 use mathlib.Core.List.{List, [], _∷_}
 use Prim.Native.Nat.{ℕ, zero, suc, _*_, Ordering}
-use lib.ListN.{length}
 use Rattle.lists.specs.Order.{same}
-use Rattle.lists.specs.Select.{keep, total}
+use Rattle.lists.specs.Select.{total}
 use Rattle.patterns.specs.Tree.{Tree, point, merge, branches, compareTree}
 use Rattle.patterns.specs.Component.{Component, compareComponent, rotationSymmetry}
-use Rattle.patterns.specs.System.{System, compareSystem}
-use Rattle.patterns.specs.Table.{systemOfTable}
-use Rattle.patterns.specs.Isomorphism.{tables}
+use Rattle.patterns.specs.System.{System}
 
 -- 1 · 2 · .. · n
 abbrev pub factorial : ℕ → ℕ
@@ -41,8 +38,3 @@ unfoldable pub symmetries : System → ℕ
 unfolding componentSymmetries compareComponent
 symmetries [] = 1
 symmetries (c ∷ S) = (suc (copies compareComponent c S) * componentSymmetries c) * symmetries S
-
--- how many tables of n points have the system S: a count, and no formula over symmetries
-unfoldable pub tablesWith : ℕ → System → ℕ
-unfolding systemOfTable compareSystem
-tablesWith n S = length (keep (λ f. same compareSystem (systemOfTable f) S) (tables n n))

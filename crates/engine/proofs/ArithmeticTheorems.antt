@@ -6,35 +6,26 @@ use mathlib.Core.List.{List}
 use Prim.Native.Nat.{ℕ, _+_, _*_, _≤_, _<_}
 use native.Mathlib.Omega.{arith}
 use lib.Dec.{leb, ltb}
-use lib.ListN.{length, take}
+use lib.ListN.{length}
 use borrow.Author.Tests.{leb-false, ltb-true, ltb-false}
 use Rattle.lists.proofs.Tests.{by-test, clash}
 use Rattle.patterns.specs.declared.Refusal.{Refusal}
-use Rattle.patterns.specs.declared.Refusal.the-variants.{Count, Image, TooLarge}
+use Rattle.patterns.specs.declared.Refusal.the-variants.{TooLarge}
 use Rattle.patterns.specs.System.{System, weight}
 use Rattle.patterns.specs.Written.{written}
-use Rattle.patterns.specs.Table.{isTable, systemOfTable}
 use Rattle.patterns.specs.Reading.{done, fault, accepted}
 use Rattle.patterns.specs.Replies.{Answer, length-is, refused, numberOf}
-use Rattle.patterns.specs.Entry.{Outcome, gives, fails, outcome, answered, filled, Replied, acceptOf, checkedTable, codeOfMap}
+use Rattle.patterns.specs.Entry.{Outcome, gives, fails, outcome, answered, filled, Replied, acceptOf, codeOfMap}
 use Rattle.patterns.specs.Arithmetic.{sumTable, productTable, sumOf, productOf, emptySystem, fixedPoint, codeOfResult, combined, sumOfCodes, productOfCodes}
-use Rattle.patterns.proofs.Outcomes.{result-written, by-result, code-gives}
+use Rattle.patterns.proofs.Outcomes.{by-result, code-gives}
 use Rattle.patterns.proofs.ArithmeticExamples.{two-hundred-points, more-points}
 use Rattle.form_theory.proofs.Bounds.{allBelow}
-use Rattle.tables.specs.Tables.{Table}
 use Rattle.arithmetic_theory.proofs.Operation.{Operation}
 use Rattle.arithmetic_theory.proofs.Sums.{sum-operation}
 use Rattle.arithmetic_theory.proofs.Products.{product-operation}
 use Rattle.arithmetic_theory.proofs.SystemLaws.{made, made-weight}
+use Rattle.engine.proofs.WrittenCodes.{Wrote, wrote-gives, map-given}
 use Rattle.arithmetic_theory.proofs.CodeLaws.{both-found, given-accepted, combined-maps, sum-codes-commute, product-codes-commute, sum-codes-associate, product-codes-associate, codes-distribute, codes-distribute-left, sum-code-neutral, sum-code-neutral-right, product-code-neutral, product-code-neutral-right, product-code-empty, product-code-empty-right}
-
--- some call that found o wrote the code c
-pub record Wrote (o : Outcome ℕ) (c : List ℕ) : Type 0 where
-  pub before : List ℕ
-  pub after : List ℕ
-  pub bytes : ℕ
-  pub replied : Replied o before (length-is bytes) after
-  pub code-is : take bytes after ≡ c
 
 -- a call that finds o and one that finds p, over the same output, have the same reply and leave the same in the output
 abbrev pub SameReplies : Outcome ℕ → Outcome ℕ → Type 0
@@ -43,9 +34,6 @@ SameReplies o p = (before after after′ : List ℕ) (x y : Answer) → Replied 
 -- every call that finds o is refused with c, and leaves the output as it was
 abbrev pub Refuses : Outcome ℕ → ℕ → Type 0
 Refuses o c = (before after : List ℕ) (x : Answer) → Replied o before x after → (x ≡ refused c) × (after ≡ before)
-
-wrote-gives : (o : Outcome ℕ) {c : List ℕ} → Wrote o c → o ≡ gives c
-wrote-gives o w = let r = result-written o (w .replied) in r .1 ∙ ap gives (sym (r .3) ∙ w .code-is)
 
 same-replies : {o p : Outcome ℕ} → o ≡ p → SameReplies o p
 same-replies e before after after′ x y q r = (
@@ -111,20 +99,6 @@ module _ (b : List ℕ) (bytes : allBelow 256 b ≡ true) where
 pub product-replies-empty : (b : List ℕ) → SameReplies (productOfCodes (written emptySystem) b) (outcome (accepted b) (λ S. gives (written emptySystem)))
     × SameReplies (productOfCodes b (written emptySystem)) (outcome (accepted b) (λ S. gives (written emptySystem)))
 product-replies-empty b = (same-replies (product-code-empty b), same-replies (product-code-empty-right b))
-
--- the code of a map is given only for a table of at most 200 points
-map-given : (f a : List ℕ) → codeOfMap f ≡ gives a → Table f × (a ≡ written (systemOfTable f))
-unfolding codeOfMap checkedTable
-map-given f a e =
-    by-test (ltb 200 (length f))
-    (λ t. let z : fails Count ≡ gives a = sym (rw t) ∙ e in clash cc)
-    (λ t.
-    by-test (isTable f)
-    (λ u.
-    let z : gives (written (systemOfTable f)) ≡ gives a = sym (rw (t, u)) ∙ e in
-    let y : a ≡ written (systemOfTable f) = cc in
-    (record { table = u; small = ltb-false 200 (length f) t }, y))
-    (λ u. let z : fails Image ≡ gives a = sym (rw (t, u)) ∙ e in clash cc))
 
 module _ {op : List ℕ → List ℕ → List ℕ} {count : ℕ → ℕ → ℕ} (o : Operation op count) where
   -- the codes of two maps

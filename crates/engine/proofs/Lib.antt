@@ -4,6 +4,8 @@ pub mod PreviewTheorems
 pub mod CensusTheorems
 pub mod PageTheorems
 pub mod PredecessorTheorems
+pub mod WrittenCodes
 pub mod ArithmeticTheorems
+pub mod TableCountTheorems
 pub mod Demand3
 pub mod Promises

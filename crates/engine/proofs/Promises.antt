@@ -14,8 +14,9 @@ use contract.Monad.{Fun, fact}
 use Rattle.patterns.specs.Page.{pageOf, PageReplied}
 use Rattle.patterns.specs.Predecessor.{predecessorOf}
 use Rattle.patterns.specs.Arithmetic.{sumOfCodes, productOfCodes}
-use Rattle.patterns.specs.Entry.{Replied, acceptOf, firstOf, successorOf, codeOfMap, mapOfCode, IsomorphismReplied, CensusReplied}
-use Rattle.patterns.specs.Replies.{answerOf}
+use Rattle.patterns.specs.TableCount.{tableCount}
+use Rattle.patterns.specs.Entry.{Replied, answer, acceptOf, firstOf, successorOf, codeOfMap, mapOfCode, IsomorphismReplied, CensusReplied}
+use Rattle.patterns.specs.Replies.{length-is, answerOf, quantityAnswer}
 use Rattle.patterns.specs.Replies.{successorAnswer, predecessorAnswer, pageAnswer, isomorphismAnswer, censusAnswer}
 use Rattle.patterns.specs.Replies.{rowOf}
 use Rattle.patterns.specs.Entry.{RowsReplied, ColumnsReplied, heightOf, longestOf}
@@ -37,6 +38,8 @@ use Rattle.arithmetic_entries.proofs.sum.Reads as sum
 use Rattle.arithmetic_entries.proofs.sum.Kinds as sum-kinds
 use Rattle.arithmetic_entries.proofs.product.Reads as product
 use Rattle.arithmetic_entries.proofs.product.Kinds as product-kinds
+use Rattle.counting_entry.proofs.table_count.Reads as table-count
+use Rattle.counting_entry.proofs.table_count.Kinds as table-count-kinds
 use Rattle.isomorphism_entry.proofs.isomorphism.Reads as isomorphism
 use Rattle.isomorphism_entry.proofs.isomorphism.Kinds as isomorphism-kinds
 use Rattle.census_entries.proofs.census as census
@@ -91,6 +94,11 @@ sum-promise κs a r s p = p
 pub product-promise : (κs : Lfts 3) (a : Dens κs product-kinds.ps) (r : _) (s : _) → product.Post κs a r s
     → Replied (productOfCodes (now (a .0)) (now (a .1 .0))) (now (a .1 .1 .0)) (answerOf r) (now (s .1 .1 .0))
 product-promise κs a r s p = p
+
+-- `table_count`: the reply
+pub table-count-promise : (κs : Lfts 1) (a : Dens κs table-count-kinds.ps) (r : _) (s : _) → table-count.Post κs a r s
+    → quantityAnswer r ≡ answer (tableCount (now (a .0))) length-is
+table-count-promise κs a r s p = p
 
 -- `isomorphism`
 pub isomorphism-promise : (κs : Lfts 3) (a : Dens κs isomorphism-kinds.ps) (r : _) (s : _) → isomorphism.Post κs a r s

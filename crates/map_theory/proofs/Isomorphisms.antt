@@ -49,7 +49,7 @@ isomorphism-compose {n} {f} {g} {h} {r} {s} b i j =
     }
 
 -- the table of the places of the points in r
-pub inverse : ℕ → List ℕ → List ℕ
+unfoldable pub inverse : ℕ → List ℕ → List ℕ
 inverse n r = map (λ x. place compare x r) (range 0 n)
 
 -- back

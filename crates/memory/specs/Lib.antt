@@ -1,2 +1,3 @@
 -- What lent slices hold.
 pub mod Memory
+pub mod HeldCode

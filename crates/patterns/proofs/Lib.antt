@@ -19,5 +19,6 @@ pub mod ListExamples
 pub mod PageExamples
 pub mod PredecessorExamples
 pub mod ArithmeticExamples
+pub mod TableCountExamples
 pub mod CallExamples
 pub mod ListingExamples

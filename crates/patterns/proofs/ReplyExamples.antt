@@ -2,14 +2,14 @@
 use mathlib.Core.Path.{_≡_, refl}
 use mathlib.Core.List.{List, [], _∷_, map}
 use Prim.Native.Nat.{ℕ}
-use Rattle.patterns.specs.declared.Refusal.the-variants.{Count, Image, Truncated, NumberForm, Sizes, NotCanonical, Trailing, Room, Position, Wanted, TooLarge}
+use Rattle.patterns.specs.declared.Refusal.the-variants.{Count, Image, Truncated, NumberForm, Sizes, NotCanonical, Trailing, Room, Position, Wanted, TooLarge, Uncounted}
 use Rattle.patterns.specs.Replies.{numberOf, Answer, length-is, last, first-of-list, lacking, refused}
 use Rattle.patterns.specs.Entry.{Outcome, gives, ends, begins, lacks, fails, answered, filled}
 
 -- the table of causes
 pub causes-numbered :
-    map numberOf (Count ∷ Image ∷ Truncated ∷ NumberForm ∷ Sizes ∷ NotCanonical ∷ Trailing ∷ Room ∷ Position ∷ Wanted ∷ TooLarge ∷ [])
-    ≡ 1 ∷ 2 ∷ 3 ∷ 4 ∷ 5 ∷ 6 ∷ 7 ∷ 8 ∷ 9 ∷ 10 ∷ 11 ∷ []
+    map numberOf (Count ∷ Image ∷ Truncated ∷ NumberForm ∷ Sizes ∷ NotCanonical ∷ Trailing ∷ Room ∷ Position ∷ Wanted ∷ TooLarge ∷ Uncounted ∷ [])
+    ≡ 1 ∷ 2 ∷ 3 ∷ 4 ∷ 5 ∷ 6 ∷ 7 ∷ 8 ∷ 9 ∷ 10 ∷ 11 ∷ 12 ∷ []
 causes-numbered = refl
 
 -- the reply and the buffer afterwards

@@ -15,6 +15,7 @@ pub mod Entry
 pub mod Page
 pub mod Predecessor
 pub mod Arithmetic
+pub mod TableCount
 pub mod Calls
 pub mod SignedReplies
 pub mod Decimal

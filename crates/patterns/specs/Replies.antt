@@ -3,7 +3,7 @@
 use Prim.Native.Nat.{ℕ}
 use Rattle.patterns.specs.Census.{Row}
 use Rattle.patterns.specs.declared.Refusal.{Refusal}
-use Rattle.patterns.specs.declared.Refusal.the-variants.{Count, Image, Truncated, NumberForm, Sizes, NotCanonical, Trailing, Room, Position, Wanted, TooLarge}
+use Rattle.patterns.specs.declared.Refusal.the-variants.{Count, Image, Truncated, NumberForm, Sizes, NotCanonical, Trailing, Room, Position, Wanted, TooLarge, Uncounted}
 use Rattle.patterns.specs.declared.reply.Reply.{Reply}
 use Rattle.patterns.specs.declared.reply.Reply.the-variants.{Length, Refused}
 use Rattle.patterns.specs.declared.reply.Successor.{Successor}
@@ -19,6 +19,8 @@ use Rattle.patterns.specs.declared.reply.Census.the-variants.{Counted, R
 use Rattle.patterns.specs.declared.reply.Row.{Row as RowStruct}
 use Rattle.patterns.specs.declared.reply.Stretch.{Stretch}
 use Rattle.patterns.specs.declared.reply.Stretch.the-variants.{Part, Refused as NoPart}
+use Rattle.patterns.specs.declared.reply.Quantity.{Quantity}
+use Rattle.patterns.specs.declared.reply.Quantity.the-variants.{Number, Refused as NoNumber}
 
 -- the table of causes; from 10 on document 02
 abbrev pub numberOf : Refusal → ℕ
@@ -33,8 +35,9 @@ numberOf Room = 8
 numberOf Position = 9
 numberOf Wanted = 10
 numberOf TooLarge = 11
+numberOf Uncounted = 12
 
--- A reply in document 01's words: a length (or n, or a number of entries), "last", "none", or a refusal with its number; and "first" of document 02, paper 3.
+-- A reply in document 01's words: a length (or n, or another number), "last", "none", or a refusal with its number; and "first" of document 02, paper 3.
 pub data Answer : Type 0 where
   length-is : ℕ → Answer
   last : Answer
@@ -88,6 +91,10 @@ censusAnswer (NotCounted c) = census-refused (numberOf c)
 abbrev pub partAnswer : Stretch → PartAnswer
 partAnswer (Part start end turns) = part-is start end turns
 partAnswer (NoPart c) = part-refused (numberOf c)
+
+abbrev pub quantityAnswer : Quantity → Answer
+quantityAnswer (Number n) = length-is n
+quantityAnswer (NoNumber c) = refused (numberOf c)
 
 -- what a struct of the lent list of rows says
 abbrev pub rowOf : RowStruct → Row

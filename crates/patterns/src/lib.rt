@@ -6,6 +6,7 @@ pub use reply::Census;
 pub use reply::Isomorphism;
 pub use reply::Page;
 pub use reply::Predecessor;
+pub use reply::Quantity;
 pub use reply::Reply;
 pub use reply::Row;
 pub use reply::Stretch;
@@ -26,6 +27,7 @@ pub enum Refusal {
     Position,
     Wanted,
     TooLarge,
+    Uncounted,
 }
 
 // The number of a cause.
@@ -44,6 +46,7 @@ pub fn number(cause: Refusal) -> u8
         Refusal::Position => 9,
         Refusal::Wanted => 10,
         Refusal::TooLarge => 11,
+        Refusal::Uncounted => 12,
     }
 }
 

@@ -51,3 +51,9 @@ pub enum Stretch {
     Part(usize, usize, usize),
     Refused(Refusal),
 }
+
+// A number of 64 bits, or a refusal with its cause: how many tables have a code [document 02, paper 7].
+pub enum Quantity {
+    Number(u64),
+    Refused(Refusal),
+}

@@ -2,6 +2,7 @@
 use patterns::Isomorphism;
 use patterns::Page;
 use patterns::Predecessor;
+use patterns::Quantity;
 use patterns::Refusal;
 use patterns::Reply;
 use patterns::Stretch;
@@ -10,7 +11,7 @@ ghost use mathlib.Core.Path.{_≡_};
 ghost use lib.IntN.{pos};
 ghost use mir.Syntax.{w64};
 ghost use mir.Val.{SFits};
-ghost use Rattle.patterns.specs.Replies.{Answer.refused, numberOf, answerOf, successorAnswer, predecessorAnswer, pageAnswer, isomorphismAnswer, partAnswer};
+ghost use Rattle.patterns.specs.Replies.{Answer.refused, numberOf, answerOf, successorAnswer, predecessorAnswer, pageAnswer, isomorphismAnswer, partAnswer, quantityAnswer};
 ghost use Rattle.patterns.specs.SignedReplies.{signedOf, pageCount, pageLength};
 ghost use Rattle.signed_replies.specs.PartNumbers.{startIn, endIn, turnsIn};
 
@@ -23,6 +24,14 @@ fn refusal(cause: Refusal) -> i64
 
 // The number of what was counted.
 fn counted(n: usize) -> i64
+    requires { ⌜ SFits w64 (pos n) ⌝ }
+    ensures { λ r. ⌜ r ≡ pos n ⌝ }
+{
+    n as i64
+}
+
+// The same of 64 bits.
+fn amount(n: u64) -> i64
     requires { ⌜ SFits w64 (pos n) ⌝ }
     ensures { λ r. ⌜ r ≡ pos n ⌝ }
 {
@@ -97,6 +106,17 @@ pub fn isomorphism_number(reply: Isomorphism) -> i64
         Isomorphism::Points(n) => counted(n),
         Isomorphism::Lacking => -101,
         Isomorphism::Refused(cause) => refusal(cause),
+    }
+}
+
+// A number of 64 bits or the number of a refusal.
+pub fn quantity_number(reply: Quantity) -> i64
+    requires { ⌜ SFits w64 (signedOf (quantityAnswer reply)) ⌝ }
+    ensures { λ r. ⌜ r ≡ signedOf (quantityAnswer reply) ⌝ }
+{
+    match reply {
+        Quantity::Number(n) => amount(n),
+        Quantity::Refused(cause) => refusal(cause),
     }
 }
 

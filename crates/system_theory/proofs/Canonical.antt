@@ -1,6 +1,6 @@
 -- Canonical systems: what the test says, and the members of the lists that the list of all codes is made of.
 use mathlib.Core.Path.{_≡_, refl, ap, ap₂, sym, _∙_}
-use mathlib.Core.List.{List, [], _∷_, map}
+use mathlib.Core.List.{List, [], _∷_, _++_, map}
 use mathlib.Core.Bool.{true, _&&_}
 use Prim.Native.Nat.{ℕ, _≤_, _<_, compare, Ordering·lt}
 use native.Mathlib.Omega.{arith}
@@ -73,6 +73,16 @@ inOrder-from p c S v h e = rw (v, h, e)
 pub canonical-cons : (c : Component) (S : System) → canonical (c ∷ S) ≡ true → (validComponent c ≡ true) × (inOrder c S ≡ true)
 unfolding canonical
 canonical-cons c S e = let r = inOrder-parts [] c S e in (r .0, r .2)
+
+-- the first components of a system in order are in order
+inOrder-front : (p : Component) (S R : System) → inOrder p (S ++ R) ≡ true → inOrder p S ≡ true
+unfolding inOrder
+inOrder-front p [] R e = refl
+inOrder-front p (c ∷ S) R e = let r = inOrder-parts p c (S ++ R) e in inOrder-from p c S (r .0) (r .1) (inOrder-front c S R (r .2))
+
+pub canonical-front : (S R : System) → canonical (S ++ R) ≡ true → canonical S ≡ true
+unfolding canonical
+canonical-front S R e = inOrder-front [] S R e
 
 -- what stands to the right of p in order comes no earlier
 inOrder-member : (p : Component) {S : System} {c : Component} → inOrder p S ≡ true → c ∈ S → (validComponent c ≡ true) × (atMost compareGenerated p c ≡ true)

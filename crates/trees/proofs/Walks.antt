@@ -132,7 +132,7 @@ pub record Inside (s : List ℕ) (last at : ℕ) (P : Tree → Type 0) : Type 0 
   pub kept : P had
 
 module _ {s : List ℕ} {last at : ℕ} {P : Tree → Type 0} (w : Inside s last at P) where
-  inside-parts : s ≡ (size (graftOn (w .had) (w .rest)) ∷ below (w .had)) ++ flat (w .rest)
+  pub inside-parts : s ≡ (size (graftOn (w .had) (w .rest)) ∷ below (w .had)) ++ flat (w .rest)
   inside-parts = w .cut ∙ ap (λ l. size (graftOn (w .had) (w .rest)) ∷ l) (below-graftOn (w .had) (w .rest))
 
   pub inside-length : length s ≡ at + points (w .rest)
@@ -147,14 +147,14 @@ module _ {s : List ℕ} {last at : ℕ} {P : Tree → Type 0} (w : Inside s last
   inside-whole t e = code-injective (graftOn (w .had) (w .rest)) t (sym (w .cut) ∙ e)
 
   -- one branch further
-  pub inside-step : (n : Next s at (w .rest)) → P (merge (w .had) (n .tree)) → Inside s at (at + getD s at 0) P
-  inside-step n p = record {
+  pub inside-step : (n : Next s at (w .rest)) (Q : Tree → Type 0) → Q (merge (w .had) (n .tree)) → Inside s at (at + getD s at 0) Q
+  inside-step n Q q = record {
     had = merge (w .had) (n .tree);
     rest = n .later;
     cut = w .cut ∙ ap (λ l. code (graftOn (w .had) l)) (n .is);
     place = omega (arith, w .place, n .number);
     from = w .place;
-    kept = p;
+    kept = q;
   }
 
   -- at the end the branches had are all

@@ -4,7 +4,7 @@ use sides::maps::is_isomorphism;
 use sides::{PageReply, Side, ENGINE, REFERENCE};
 use std::fmt::Write;
 
-pub const ENTRIES: [&str; 16] = [
+pub const ENTRIES: [&str; 17] = [
     "accept",
     "first",
     "successor",
@@ -21,6 +21,7 @@ pub const ENTRIES: [&str; 16] = [
     "component_start",
     "component_end",
     "component_turns",
+    "table_count",
 ];
 
 /// The bytes in front of a lent buffer and behind it.
@@ -113,6 +114,17 @@ impl Comparison {
         });
     }
 
+    /// The same of a call that is lent no output.
+    fn kept(&mut self, entry: &str, input: &[u8], call: impl Fn(&Side, &[u8]) -> i64) {
+        let given = Lent::holding(input);
+        let (engine, reference) = (call(&ENGINE, given.lent()), call(&REFERENCE, given.lent()));
+        let kept = *std::hint::black_box(&given) == Lent::holding(input);
+        self.count(entry, engine == reference && kept, |text| {
+            let around = if kept { "kept" } else { "not kept" };
+            write!(text, "engine {engine}, reference {reference}, input {around}, {input:?}").unwrap()
+        });
+    }
+
     /// The same for two inputs. Where one slice is given twice, the entries, too, are given one buffer twice.
     fn two_buffers(&mut self, entry: &str, [first, second]: [&[u8]; 2], room: usize, call: impl Fn(&Side, &[u8], &[u8], &mut [u8]) -> i64) {
         let (given, other, mut by_engine, mut by_reference) = (Lent::holding(first), Lent::holding(second), Lent::new(room), Lent::new(room));
@@ -186,6 +198,10 @@ impl Comparison {
         self.replies("component_start", code, |side| (side.component_start)(code, position));
         self.replies("component_end", code, |side| (side.component_end)(code, position));
         self.replies("component_turns", code, |side| (side.component_turns)(code, position));
+    }
+
+    pub fn table_count(&mut self, code: &[u8]) {
+        self.kept("table_count", code, |side, code| (side.table_count)(code));
     }
 
     /// Which isomorphism is written is left open, so the engine's is checked arrow by arrow.

@@ -16,6 +16,7 @@ fn rooms(result: &Result<Vec<u8>, i64>) -> Vec<usize> {
 /// A code, good or bad, to every entry that takes one.
 pub fn code(comparison: &mut Comparison, code: &[u8]) {
     comparison.accept(code);
+    comparison.table_count(code);
     for room in rooms(&written(|out| (REFERENCE.successor)(code, out))) {
         comparison.successor(code, room);
     }
@@ -70,6 +71,11 @@ pub fn table(comparison: &mut Comparison, table: &[u8]) {
     census(comparison, table);
     comparison.height(table);
     comparison.longest_cycle(table);
+}
+
+/// Every table of n points.
+pub fn every_table(n: usize) -> impl Iterator<Item = Vec<u8>> {
+    (0..n.pow(n as u32)).map(move |number| (0..n).map(|x| (number / n.pow(x as u32) % n) as u8).collect())
 }
 
 /// The two lists of a census with every shape of room.

@@ -1,10 +1,11 @@
-//! What holds of sums, products and turns, whatever the codes, as equalities of the engine's own replies: each result goes on as an input.
+//! What holds of sums, products, turns and numbers of tables, whatever the codes, as equalities of the engine's own replies: each result goes on as an input.
 
 use crate::compare::Comparison;
-use sides::maps::shuffled;
+use crate::inputs::every_table;
+use sides::maps::{is_isomorphism, shuffled};
 use sides::random::Random;
 use sides::{code_of, written, ENGINE};
-use std::collections::BTreeMap;
+use std::collections::{BTreeMap, HashMap};
 use std::fmt::Write;
 
 /// A code, or the reply of a refusal.
@@ -234,4 +235,64 @@ pub fn turns(comparison: &mut Comparison, code: &[u8], random: &mut Random) {
             with_cycle(comparison, &component, copies);
         }
     }
+}
+
+/// Over the whole list of n points, by first and successor, the numbers of tables make n to the power n, which is 1 for no points.
+pub fn all_tables(comparison: &mut Comparison, n: usize) {
+    let list = std::iter::successors(written(|out| (ENGINE.first)(n, out)).ok(), |code| written(|out| (ENGINE.successor)(code, out)).ok());
+    let (found, expected) = (list.map(|code| (ENGINE.table_count)(&code)).sum::<i64>(), (n as i64).pow(n as u32));
+    comparison.count("table_count", found == expected, |text| write!(text, "over all codes of {n} points {found}, {expected}").unwrap());
+}
+
+/// Each table of n points is counted under its code: every code of the list has as many as the engine says, and there are no others.
+pub fn each_table(comparison: &mut Comparison, n: usize, list: &[Vec<u8>]) {
+    let mut tables = HashMap::new();
+    for table in every_table(n) {
+        *tables.entry(written(|out| (ENGINE.code_of_map)(&table, out)).expect("a code")).or_insert(0) += 1;
+    }
+    for code in list {
+        let (found, expected) = ((ENGINE.table_count)(code), tables.remove(code).unwrap_or(0));
+        comparison.count("table_count", found == expected, |text| write!(text, "{found}, of every table {expected}, code {code:?}").unwrap());
+    }
+    comparison.count("table_count", tables.is_empty(), |text| write!(text, "{} codes of {n} points are not in the list", tables.len()).unwrap());
+}
+
+/// Every order of n points.
+fn orders(n: usize) -> Vec<Vec<u8>> {
+    if n == 0 {
+        return vec![Vec::new()];
+    }
+    let with_last = |order: Vec<u8>| (0..n).map(move |place| [&order[..place], &[n as u8 - 1], &order[place..]].concat());
+    orders(n - 1).into_iter().flat_map(with_last).collect()
+}
+
+/// A map is renamed in n! ways. As many of these lead to one table as leave the map as it is.
+pub fn symmetries(comparison: &mut Comparison, n: usize, list: &[Vec<u8>]) {
+    let orders = orders(n);
+    for code in list {
+        let map = written(|out| (ENGINE.map_of_code)(code, out)).expect("a map");
+        let kept = orders.iter().filter(|order| is_isomorphism(&map, &map, order)).count();
+        let tables = (ENGINE.table_count)(code);
+        comparison.count("table_count", tables * kept as i64 == orders.len() as i64, |text| {
+            write!(text, "{tables} tables, {kept} of {} renamings leave the map, code {code:?}", orders.len()).unwrap()
+        });
+    }
+}
+
+/// In how many ways so many points are chosen of n.
+fn choices(n: usize, chosen: usize) -> i128 {
+    (0..chosen).fold(1, |ways, i| ways * (n - i) as i128 / (i + 1) as i128)
+}
+
+/// The names of a sum are handed out to both systems. Of a component that both have it is not seen in a table which copy is whose.
+pub fn tables_of_sum(comparison: &mut Comparison, a: &[u8], b: &[u8]) {
+    let [x, y] = [a, b].map(|code| (ENGINE.table_count)(code) as i128);
+    let both = plus(a, b).map_or(-1, |code| (ENGINE.table_count)(&code) as i128);
+    let (mine, others) = (components(a), components(b));
+    let copies = |group: &[(&[u8], i64)]| choices(group.len() + others.iter().filter(|part| **part == group[0]).count(), group.len());
+    let unseen: i128 = mine.chunk_by(|one, next| one == next).map(copies).product();
+    let handed_out = choices((a[0] + b[0]) as usize, a[0] as usize);
+    comparison.count("table_count", both * unseen == handed_out * x * y, |text| {
+        write!(text, "of a sum {both}, {unseen} times too few; {x} and {y}, handed out {handed_out} times; codes {a:?} {b:?}").unwrap()
+    });
 }

@@ -11,12 +11,12 @@ use compare::{Comparison, ENTRIES};
 use laws::Laws;
 use sides::maps::{shuffled, small_components, uniform, KINDS, PERIODIC};
 use sides::random::Random;
-use sides::{code_of, written, PageReply, ENGINE, EVERY_PAGE, MOST_WANTED, REFERENCE};
+use sides::{code_of, written, PageReply, ENGINE, EVERY_PAGE, MOST_COUNTED, MOST_WANTED, REFERENCE};
 use std::path::Path;
 use std::process::ExitCode;
 
 /// The calls that a run has to make.
-const LEAST_CALLS: u64 = 20_000_000;
+const LEAST_CALLS: u64 = 40_000_000;
 
 /// How often the laws of three codes have to end with a code on both sides, and with 11 on both.
 const LEAST_GIVEN: u64 = 25_000;
@@ -57,7 +57,7 @@ fn every_code(comparison: &mut Comparison) {
     }
 }
 
-/// Every string of up to two bytes to every entry that takes a code, and every one of three bytes to accept, which tells the cause.
+/// Every string of up to two bytes to every entry that takes a code, and every one of three bytes to accept, which tells the cause, and to the number of tables.
 fn every_short(comparison: &mut Comparison) {
     for length in 0..=3 {
         for number in 0..1u32 << (8 * length) {
@@ -66,6 +66,7 @@ fn every_short(comparison: &mut Comparison) {
                 inputs::code(comparison, bytes);
             } else {
                 comparison.accept(bytes);
+                comparison.table_count(bytes);
             }
         }
     }
@@ -111,6 +112,7 @@ fn every_small_damage(comparison: &mut Comparison) {
             for byte in 0..=255 {
                 other[place] = byte;
                 comparison.accept(&other);
+                comparison.table_count(&other);
             }
             other.remove(place);
             inputs::code(comparison, &other);
@@ -125,9 +127,8 @@ fn every_small_damage(comparison: &mut Comparison) {
 
 /// Every map of up to 6 points.
 fn every_map(comparison: &mut Comparison) {
-    for n in 0..=6usize {
-        for number in 0..n.pow(n as u32) {
-            let table: Vec<u8> = (0..n).map(|x| (number / n.pow(x as u32) % n) as u8).collect();
+    for n in 0..=6 {
+        for table in inputs::every_table(n) {
             if n < 6 {
                 inputs::table(comparison, &table);
             } else {
@@ -482,6 +483,47 @@ fn turns(comparison: &mut Comparison, random: &mut Random, rounds: usize) {
     }
 }
 
+/// The numbers of tables of whole lists: over each list that may be asked for they make all tables; up to 12 points each is compared; and of a few points the tables are
+/// counted one by one, and so are the renamings that leave a map as it is.
+fn whole_lists(comparison: &mut Comparison) {
+    for n in 0..=MOST_COUNTED {
+        laws::all_tables(comparison, n);
+    }
+    for n in 0..=12 {
+        codes(n).iter().for_each(|code| comparison.table_count(code));
+    }
+    for n in 0..=7 {
+        let list = codes(n);
+        laws::each_table(comparison, n, &list);
+        laws::symmetries(comparison, n, &list);
+    }
+}
+
+/// The numbers of tables of maps of every kind, of 11 to 15 points and of a few more, whole and damaged.
+fn table_counts(comparison: &mut Comparison, random: &mut Random, rounds: usize) {
+    for (_, kind) in KINDS.into_iter().chain(PERIODIC) {
+        for round in 0..rounds {
+            let code = code_of(&kind(11 + round % 7, random));
+            comparison.table_count(&code);
+            let mut damaged = code;
+            (0..1 + random.below(3)).for_each(|_| inputs::damage(&mut damaged, random));
+            comparison.table_count(&damaged);
+        }
+    }
+}
+
+/// What holds of the number of tables of a sum: of two codes of every kind, which may have components in common, and of a code with itself.
+fn tables_of_sums(comparison: &mut Comparison, random: &mut Random, rounds: usize) {
+    for _ in 0..rounds {
+        let n = random.below(MOST_COUNTED + 1);
+        let m = random.below(MOST_COUNTED + 1 - n);
+        let (a, b) = (code_of(&some_map(n, random)), code_of(&some_map(m, random)));
+        laws::tables_of_sum(comparison, &a, &b);
+        let half = code_of(&some_map(n / 2, random));
+        laws::tables_of_sum(comparison, &half, &half);
+    }
+}
+
 /// The number of calls of each entry, and whether the run was long enough and without a difference.
 fn report(comparison: &Comparison, laws: &Laws) -> bool {
     for (entry, calls) in ENTRIES.iter().zip(comparison.calls) {
@@ -522,6 +564,9 @@ fn main() -> ExitCode {
     noise_by_two(comparison, random, 8_000);
     laws_by_chance(comparison, laws, random, 12_000);
     turns(comparison, random, 5_000);
+    whole_lists(comparison);
+    table_counts(comparison, random, 2_000);
+    tables_of_sums(comparison, random, 20_000);
     if report(comparison, laws) {
         ExitCode::SUCCESS
     } else {

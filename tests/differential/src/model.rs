@@ -43,6 +43,7 @@ fn answer(side: &Side, entry: usize, room: usize, first: &(usize, Vec<u8>), seco
     let mut out = vec![0; room];
     let reply = match entry {
         1 => return ((side.accept)(input), Vec::new()),
+        11 => return ((side.table_count)(input), Vec::new()),
         2 => (side.first)(*count, &mut out),
         3 => (side.successor)(input, &mut out),
         4 => (side.code_of_map)(input, &mut out),
@@ -57,10 +58,11 @@ fn answer(side: &Side, entry: usize, room: usize, first: &(usize, Vec<u8>), seco
     (reply, out)
 }
 
-const NAMES: [&str; 11] = ["", "accept", "first", "successor", "code_of_map", "map_of_code", "isomorphism", "census", "predecessor", "sum", "product"];
+const NAMES: [&str; 12] =
+    ["", "accept", "first", "successor", "code_of_map", "map_of_code", "isomorphism", "census", "predecessor", "sum", "product", "table_count"];
 
 /// The files of cases.
-const FILES: [&str; 14] = [
+const FILES: [&str; 15] = [
     "examples",
     "damaged",
     "damaged_long",
@@ -75,6 +77,7 @@ const FILES: [&str; 14] = [
     "sums",
     "sums_long",
     "products_long",
+    "table_counts",
 ];
 
 /// One line of a file of cases.

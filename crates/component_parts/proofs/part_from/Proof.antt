@@ -3,8 +3,8 @@ use Prim.Native.Nat.{_+_}
 use native.Mathlib.Omega.{arith}
 use borrow.Author.Needs.{needs}
 use Rattle.patterns.specs.Replies.{part-is}
-use Rattle.components.proofs.RotationAnswers.{told-turns}
-use Rattle.component_parts.proofs.LocatedPart.{few-bytes, never-lesser}
+use Rattle.components.proofs.RotationAnswers.{told-turns, never-lesser}
+use Rattle.component_parts.proofs.LocatedPart.{few-bytes}
 use Rattle.component_parts.proofs.part_from.Statement.{statement}
 use Rattle.component_parts.proofs.part_from.Tie as tie
 

@@ -142,7 +142,7 @@ pub +valid-tree-spec : {M : Type 1} → statement M
     (λ c.
     let test = tested (c .before) in
     let i = turn test in
-    inside-step (W i) (here i) (merge-valid (W i .had) (here i .tree) (W i .kept)
+    inside-step (W i) (here i) Valid (merge-valid (W i .had) (here i .tree) (W i .kept)
     (sym (valid test) ∙ not-of-false (test .valid-tree .result) (c .before .before .before .before .if1 .left))
     (sym (ordered (c .before)) ∙ not-of-false (c .before .at-most .result) (c .if2 .left))))
     (λ c.

@@ -42,7 +42,7 @@ loop-less c =
 loop-again : tie.Need-loop-again Inv-loop μ-loop
 loop-again c =
     let w = c .before .before .loop .inv in
-    inside-step w (inside-next w (omega arith)) tt
+    inside-step w (inside-next w (omega arith)) (λ t. Unit {0}) tt
 
 returns : tie.Need-returns Inv-loop μ-loop
 returns c =

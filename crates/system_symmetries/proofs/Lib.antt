@@ -1,0 +1,3 @@
+-- The theory of this layer.
+pub mod EqualComponents
+pub mod ComponentWalks

@@ -1,0 +1,4 @@
+-- The theory of this layer.
+pub mod EqualTrees
+pub mod BranchWalks
+pub mod CycleWalks
