@@ -20,8 +20,8 @@ module _ {n i product : ℕ} (w : FactorsBelow n i product) where
   factor-more : product * i ≡ factorial (suc (w .last))
   factor-more = rw (w .is, w .next) (mul-comm (factorial (w .last)) (suc (w .last)))
 
-  pub factor-small : n ≤ 15 → i ≤ n → product * i ≤ most
-  factor-small h k = rw factor-more (small-factorial (suc (w .last)) (omega (arith, w .next)))
+  pub product-small : n ≤ 15 → i ≤ n → product * i ≤ most
+  product-small h k = rw factor-more (small-factorial (suc (w .last)) (omega (arith, w .next)))
 
   pub factors-next : i ≤ n → FactorsBelow n (i + 1) (product * i)
   factors-next k = record { last = suc (w .last); next = omega (arith, w .next); within = omega (arith, w .next); is = factor-more }

@@ -20,11 +20,14 @@ length-trees [] = refl
 length-trees (c ∷ S) = omega (arith, length-append (flat c) (gather flat S), length-flat c, length-trees S)
 
 -- component i is the next after the first i
+pub first-next : (S : System) (i : ℕ) → i < length S → take (i + 1) S ≡ take i S ++ (getD S i [] ∷ [])
+first-next S i h = ap (λ k. take k S) (add-one i) ∙ take-suc S i [] h
+
 pub take-next : {B : Type 0} (f : Component → List B) (S : System) (i : ℕ) → i < length S → gather f (take (i + 1) S) ≡ gather f (take i S) ++ f (getD S i [])
-take-next f S i h = rw (add-one i, take-suc S i [] h) (gather-append f (take i S) (getD S i [] ∷ []) ∙ ap (gather f (take i S) ++_) (append-nil (f (getD S i []))))
+take-next f S i h = rw (first-next S i h) (gather-append f (take i S) (getD S i [] ∷ []) ∙ ap (gather f (take i S) ++_) (append-nil (f (getD S i []))))
 
 pub weight-next : (S : System) (i : ℕ) → i < length S → weight (take (i + 1) S) ≡ weight (take i S) + points (getD S i [])
-weight-next S i h = rw (add-one i, take-suc S i [] h) (omega (arith, total-append points (take i S) (getD S i [] ∷ [])))
+weight-next S i h = rw (first-next S i h) (omega (arith, total-append points (take i S) (getD S i [] ∷ [])))
 
 -- the trees up to place i, and from there on
 pub trees-cut : (S : System) (i : ℕ) → gather flat S ≡ gather flat (take i S) ++ gather flat (drop i S)

@@ -6,7 +6,7 @@ use Prim.Native.Nat.{ℕ, _+_, _-_, _*_, _≤_, _<_}
 use native.Mathlib.Numerals.{add-one}
 use native.Mathlib.Omega.{arith}
 use lib.ListN.{length, take, drop, getD, length-take, take-append-drop}
-use lib.Seq.{take-suc, take-all}
+use lib.Seq.{take-all}
 use Rattle.lists.proofs.Tests.{each-member}
 use Rattle.lists.proofs.Gathering.{take-map}
 use Rattle.lists.proofs.Places.{in-index}
@@ -18,7 +18,7 @@ use Rattle.system_theory.proofs.Canonical.{canonical-front}
 use Rattle.form_theory.proofs.Readback.{canonical-nonempty}
 use Rattle.memory.specs.Memory.{Holds, HeldSystem}
 use Rattle.memory.specs.HeldCode.{HeldValid, HeldCanonical}
-use Rattle.memory.proofs.Parts.{held-count, held-points, held-fits, held-part, held-next, held-unique, front-trees, weight-next, weight-cut}
+use Rattle.memory.proofs.Parts.{first-next, held-count, held-points, held-fits, held-part, held-next, held-unique, front-trees, weight-next, weight-cut}
 use Rattle.counting_theory.specs.Symmetries.{product, copies, treeSymmetries, componentSymmetries, symmetries}
 use Rattle.counting_theory.proofs.Arrangements.{copies-length, symmetries-snoc}
 use Rattle.counting_theory.proofs.CountedTables.{symmetries-positive}
@@ -116,7 +116,7 @@ module _ {sizes trees : List ℕ} {n at i : ℕ} (w : CountedFirst sizes trees n
       more-symmetries =
           ap₂ _*_ (ap₂ _*_ (ap (λ m. m + 1) copied ∙ add-one (copies compareComponent c (take i S))) inner) (w .count)
           ∙ sym (symmetries-snoc (take i S) c)
-          ∙ ap symmetries (sym (ap (λ m. take m S) (add-one i) ∙ take-suc S i [] inside))
+          ∙ ap symmetries (sym (first-next S i inside))
 
       pub more-small : ((k + 1) * own) * n ≤ most
       more-small = subst (λ m. m ≤ most) (sym more-symmetries) (small-system (take (i + 1) S) (canonical-first (i + 1)) (weight-first (i + 1)))

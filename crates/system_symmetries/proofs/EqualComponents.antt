@@ -3,10 +3,9 @@ use mathlib.Core.Path.{_≡_, refl, ap, sym, _∙_}
 use mathlib.Core.Bool.{true, false, cond}
 use mathlib.Core.List.{List, [], _∷_, _++_}
 use Prim.Native.Nat.{ℕ, _+_, _-_, _≤_, _<_, compare}
-use native.Mathlib.Numerals.{add-one}
 use native.Mathlib.Omega.{arith}
 use lib.ListN.{length, take, drop, getD}
-use lib.Seq.{take-suc, take-all}
+use lib.Seq.{take-all}
 use Rattle.lists.specs.Order.{lex, same}
 use Rattle.lists.proofs.Tests.{same-tests}
 use Rattle.lists.proofs.Comparison.{same-true, same-of-path}
@@ -15,7 +14,7 @@ use Rattle.patterns.specs.Component.{Component, flat, compareComponent}
 use Rattle.patterns.specs.System.{System, weight}
 use Rattle.patterns.proofs.Trees.{flat-injective, compareComponent-lawful}
 use Rattle.memory.specs.Memory.{Holds, HeldSystem}
-use Rattle.memory.proofs.Parts.{held-count, held-fits, held-part, held-next, held-unique}
+use Rattle.memory.proofs.Parts.{first-next, held-count, held-fits, held-part, held-next, held-unique}
 use Rattle.counting_theory.specs.Symmetries.{copies}
 use Rattle.counting_theory.proofs.Arrangements.{copies-snoc}
 
@@ -56,7 +55,7 @@ module _ {component sizes trees : List ℕ} {n at i : ℕ} (w : EqualFirst compo
     next-part = held-part (w .held .holds) i at end h (w .place) refl
 
     first-more : take (i + 1) S ≡ take i S ++ (d ∷ [])
-    first-more = ap (λ k. take k S) (add-one i) ∙ take-suc S i [] (omega (arith, held-count (w .held .holds)))
+    first-more = first-next S i (omega (arith, held-count (w .held .holds)))
 
     told : (c : Component) → component ≡ flat c → same compareComponent c d ≡ same (lex compare) component (take (end - at) (drop at trees))
     told c e =

@@ -1,6 +1,6 @@
 use Prim.Native.Nat.{_+_, _-_}
 use native.Mathlib.Omega.{arith}
-use Rattle.counting_entry.proofs.Factorials.{FactorsBelow, no-factors, factor-small, factors-next, factors-end}
+use Rattle.counting_entry.proofs.Factorials.{FactorsBelow, no-factors, product-small, factors-next, factors-end}
 use Rattle.counting_entry.proofs.factorial.Statement.{statement}
 use Rattle.counting_entry.proofs.factorial.Tie as tie
 
@@ -14,7 +14,7 @@ loop-holds : tie.Need-loop-holds Inv-loop μ-loop
 loop-holds c = no-factors (c .args .n)
 
 mul-product : tie.Need-mul-product Inv-loop μ-loop
-mul-product c = omega (arith, factor-small (c .before .loop .inv) (c .before .before .pre) (omega arith))
+mul-product c = omega (arith, product-small (c .before .loop .inv) (c .before .before .pre) (omega arith))
 
 loop-again : tie.Need-loop-again Inv-loop μ-loop
 loop-again c = factors-next (c .before .loop .inv) (omega arith)

@@ -4,10 +4,10 @@ use Rattle.list_checks.proofs.totals.count_codes.Statement.{statement}
 use Rattle.list_checks.proofs.totals.count_codes.Tie as tie
 
 abbrev Inv-loop : tie.InvT-loop
-Inv-loop n code₀ codes₀ connected₀ code codes connected = codes ≤ 10000
+Inv-loop n code₀ codes₀ connected₀ tables₀ code codes connected tables = codes ≤ 10000
 
 abbrev μ-loop : tie.MeasureT-loop
-μ-loop n code₀ codes₀ connected₀ code codes connected = 10000 - codes
+μ-loop n code₀ codes₀ connected₀ tables₀ code codes connected tables = 10000 - codes
 
 pub count-codes-spec : {M : Type 1} → statement M
 count-codes-spec =
@@ -18,6 +18,8 @@ count-codes-spec =
     (λ c κs. search needs)
     (λ c. search needs)
     (λ c. search needs)
+    (λ c κs. search needs)
+    (λ c κs. search needs)
     (λ c κs. search needs)
     (λ c κs. search needs)
     (λ c κs. search needs)
