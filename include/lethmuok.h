@@ -5,10 +5,10 @@
  * pattern; 1,000 bytes hold every code.
  *
  * Replies. Every function but lethmuok_page answers one number, an int64_t, and lethmuok_page two of them; test a number for less than 0 before it becomes a size_t.
- * 0 or more is what the function's comment says. It is never more than 1,000, but for the bytes of a page, which are never more than 1,000,000, and for the number of
- * tables that lethmuok_table_count answers: that needs more than 32 bits, and is never more than 1,307,674,368,000. From -1 to -99 it is a refusal, minus the number of
- * its cause; lethmuok_page has it in both numbers. -100, -101 and -102 are answers too, and no refusals. A result fills the first places of its buffer, and every other
- * byte of every buffer is kept; with a negative reply all of them are.
+ * 0 or more is what the function's comment says. It is never more than 1,000, but for the bytes of a page, which are never more than 1,000,000, and for two numbers that
+ * need more than 32 bits: what lethmuok_table_count answers is never more than 1,307,674,368,000, and what lethmuok_period answers never more than 5,354,228,880. From -1
+ * to -99 it is a refusal, minus the number of its cause; lethmuok_page has it in both numbers. -100, -101 and -102 are answers too, and no refusals. A result fills the
+ * first places of its buffer, and every other byte of every buffer is kept; with a negative reply all of them are.
  *
  * Buffers. Each is a pointer and a count of bytes, all of which must be there to be read, and in an output to be written.
  * - No pointer may be null, not even where the count is 0: for a table of no points, or to lend no room, pass the address of any object and the count 0.
@@ -31,26 +31,34 @@ extern "C" {
 
 /* The negative replies: the causes of refusal, and the three that are no refusals. */
 enum {
-    LETHMUOK_COUNT = -1,         /* a count of points, or the length of a table, is above 200 */
-    LETHMUOK_IMAGE = -2,         /* a byte of a table is no point */
-    LETHMUOK_TRUNCATED = -3,     /* the bytes end before the code does */
-    LETHMUOK_NUMBER_FORM = -4,   /* a number of two bytes has a wrong second byte */
-    LETHMUOK_SIZES = -5,         /* the sizes in a code do not fit each other */
-    LETHMUOK_NOT_CANONICAL = -6, /* the sizes fit, but this is not the code of the pattern */
-    LETHMUOK_TRAILING = -7,      /* there are numbers after the code */
-    LETHMUOK_ROOM = -8,          /* the output is shorter than the result */
-    LETHMUOK_POSITION = -9,      /* the code has no component at that position */
-    LETHMUOK_WANTED = -10,       /* more than 1,000 codes are wanted */
-    LETHMUOK_TOO_LARGE = -11,    /* the result has more than 200 points */
-    LETHMUOK_UNCOUNTED = -12,    /* the code has more than 15 points, and its tables are not counted */
-    LETHMUOK_LAST = -100,        /* no code follows in the list */
-    LETHMUOK_NONE = -101,        /* there is no isomorphism */
-    LETHMUOK_FIRST = -102        /* no code comes before in the list */
+    LETHMUOK_COUNT = -1,            /* a count of points, or the length of a table, is above 200 */
+    LETHMUOK_IMAGE = -2,            /* a byte of a table is no point */
+    LETHMUOK_TRUNCATED = -3,        /* the bytes end before the code does */
+    LETHMUOK_NUMBER_FORM = -4,      /* a number of two bytes has a wrong second byte */
+    LETHMUOK_SIZES = -5,            /* the sizes in a code do not fit each other */
+    LETHMUOK_NOT_CANONICAL = -6,    /* the sizes fit, but this is not the code of the pattern */
+    LETHMUOK_TRAILING = -7,         /* there are numbers after the code */
+    LETHMUOK_ROOM = -8,             /* the output is shorter than the result */
+    LETHMUOK_POSITION = -9,         /* the code has no component at that position */
+    LETHMUOK_WANTED = -10,          /* more than 1,000 codes are wanted */
+    LETHMUOK_TOO_LARGE = -11,       /* the result has more than 200 points */
+    LETHMUOK_UNCOUNTED = -12,       /* the code has more than 15 points, and its tables are not counted */
+    LETHMUOK_TOO_MANY_POINTS = -13, /* the table has more than 120 points, and its period is not told */
+    LETHMUOK_LAST = -100,           /* no code follows in the list */
+    LETHMUOK_NONE = -101,           /* there is no isomorphism */
+    LETHMUOK_FIRST = -102           /* no code comes before in the list */
 };
 
 /* What always suffices: points of a map, bytes of a code, entries of a census. The most codes that may be wanted of a page, which LETHMUOK_MAX_WANTED times
- * LETHMUOK_MAX_CODE bytes always hold. The most points of a code whose tables are counted. */
-enum { LETHMUOK_MAX_POINTS = 200, LETHMUOK_MAX_CODE = 1000, LETHMUOK_MAX_ENTRIES = 19, LETHMUOK_MAX_WANTED = 1000, LETHMUOK_MAX_COUNTED = 15 };
+ * LETHMUOK_MAX_CODE bytes always hold. The most points of a code whose tables are counted, and of a map whose period is told. */
+enum {
+    LETHMUOK_MAX_POINTS = 200,
+    LETHMUOK_MAX_CODE = 1000,
+    LETHMUOK_MAX_ENTRIES = 19,
+    LETHMUOK_MAX_WANTED = 1000,
+    LETHMUOK_MAX_COUNTED = 15,
+    LETHMUOK_MAX_PERIOD_POINTS = 120
+};
 
 /* The reply of lethmuok_page: how many codes it wrote, and how many bytes they take together. A refusal stands in both. */
 typedef struct {
@@ -98,8 +106,10 @@ int64_t lethmuok_census(const uint8_t *table, size_t n, uint8_t *lengths, size_t
 /* The greatest distance of a point of a map from its cycle. */
 int64_t lethmuok_height(const uint8_t *table, size_t n);
 
-/* The length of the longest cycle of a map. */
-int64_t lethmuok_longest_cycle(const uint8_t *table, size_t n);
+/* The period of a map, which may have LETHMUOK_MAX_PERIOD_POINTS points: the least p of at least 1 such that, once every point is on a cycle, p further steps bring each
+ * point back. That is the least common multiple of the cycle lengths, 6 for cycles of 2 and 3, and 1 for no points; it is never more than 5,354,228,880. The papers call
+ * it round length. LETHMUOK_COUNT comes first, then LETHMUOK_TOO_MANY_POINTS, then LETHMUOK_IMAGE. */
+int64_t lethmuok_period(const uint8_t *table, size_t n);
 
 /* Where the bytes of the component at a position, counted from 0, begin in a code; and where they end, which is the place after the last of them. */
 int64_t lethmuok_component_start(const uint8_t *code, size_t code_len, size_t position);

@@ -13,7 +13,7 @@ import plain_model as model
 TOP = os.path.join(os.path.dirname(os.path.realpath(__file__)), "..")
 KEPT = os.path.join(TOP, "crates", "checks", "data")
 MADE = KEPT if sys.argv[1:] == ["--write"] else os.path.join(TOP, "target", "checks-data")
-ACCEPT, FIRST, SUCCESSOR, CODE_OF_MAP, MAP_OF_CODE, ISOMORPHISM, CENSUS, PREDECESSOR, SUM, PRODUCT, TABLE_COUNT = range(1, 12)
+ACCEPT, FIRST, SUCCESSOR, CODE_OF_MAP, MAP_OF_CODE, ISOMORPHISM, CENSUS, PREDECESSOR, SUM, PRODUCT, TABLE_COUNT, PERIOD = range(1, 13)
 KINDS = {"length": 0, "last": 1, "none": 2, "refused": 3, "first": 4, "census": 0, "part": 0, "page": 0, "number": 0}
 WIDE = 1000
 WIDEST = 10000
@@ -56,8 +56,8 @@ def stretch(numbers, length=None):
 def case(entry, room, a, b, answer):
     kind, result = answer
     if kind == "census":
-        rows, height, longest = result
-        value, output = len(rows), [height, longest] + [x for row in rows for x in row]
+        rows, height = result
+        value, output = len(rows), [height] + [x for row in rows for x in row]
     elif kind == "length":
         value, output = len(result), [] if entry == ACCEPT else result
     else:
@@ -109,6 +109,10 @@ def product_of_codes(a, b, room=WIDE, lengths=(None, None)):
 
 def table_count(code, length=None):
     return case(TABLE_COUNT, 0, stretch(code, length), [0, 0], model.table_count(repeated(code, length)))
+
+
+def period(table, length=None):
+    return case(PERIOD, 0, stretch(table, length), [0, 0], model.period(repeated(table, length)))
 
 
 def census(table, room=19):
@@ -174,12 +178,12 @@ def examples():
     lines += [refused([], 3), refused([128], 3), refused([129, 0], 4), refused([128, 128], 4)]
     lines += [refused([0, 1], 5), refused([1, 0], 5), refused([1, 1, 1, 1, 9], 7)]
     lines += [refused([200, 1], 3), refused([201, 1], 1)]
-    lines.append(given(census([1, 0, 2, 2]), "census", 2, [1, 2, 1, 1, 2, 1]))
+    lines.append(given(census([1, 0, 2, 2]), "census", 2, [1, 1, 1, 2, 1]))
     # paper 1 of document 02: rows by rising length, in whatever order the cycles are met; no points; 200 points on cycles of 19 lengths
-    lines.append(given(census([1, 2, 0, 4, 3, 5]), "census", 3, [0, 3, 1, 1, 2, 1, 3, 1]))
-    lines.append(given(census([]), "census", 0, [0, 0]))
+    lines.append(given(census([1, 2, 0, 4, 3, 5]), "census", 3, [0, 1, 1, 2, 1, 3, 1]))
+    lines.append(given(census([]), "census", 0, [0]))
     lengths = [29, *range(18, 0, -1)]
-    lines.append(given(census(joined(*map(cycle_map, lengths))), "census", 19, [0, 29] + [x for k in sorted(lengths) for x in (k, 1)]))
+    lines.append(given(census(joined(*map(cycle_map, lengths))), "census", 19, [0] + [x for k in sorted(lengths) for x in (k, 1)]))
     # the list of 3 points, and what would break under the plausible and false readings
     three = [[3, 3, 1, 1, 1, 1, 1, 1], [3, 2, 1, 1, 2, 1, 1], [3, 2, 1, 1, 1, 2, 1], [3, 1, 3, 1, 1, 1], [3, 1, 1, 3, 2, 1], [3, 1, 1, 3, 1, 1], [3, 1, 2, 1, 2, 1]]
     lines.append(given(first(3, WIDE), "length", 8, three[0]))
@@ -207,6 +211,10 @@ def examples():
     lines += [given(table_count(code), "number", tables) for code, tables in zip(three, (1, 3, 6, 2, 6, 3, 6))] + [given(table_count(empty), "number", 1)]
     sixteen = model.first(16, WIDE)[1]
     lines += [given(table_count(code), "refused", cause) for code, cause in ((sixteen, 12), (most, 12), (sixteen + [1], 7), (sixteen[:-1], 3))]
+    # paper 8 of document 02: cycles of 2 and 3, no points, and the map of the sheet, whose round length was told with the census; 13 after 1 and before 2
+    lines += [given(period(table), "number", steps) for table, steps in (([1, 0, 3, 4, 2], 6), ([], 1), ([1, 0, 2, 2], 2))]
+    lines += [given(period([0], 120), "number", 1)] + [given(period([0], n), "refused", cause) for n, cause in ((121, 13), (200, 13), (201, 1))]
+    lines += [given(period([255], n), "refused", cause) for n, cause in ((120, 2), (121, 13), (200, 13), (201, 1))]
     # the order of checks
     lines += [refused([1, 1, 1, 1, 128], 3), refused([1, 1, 1, 1, 129, 0], 4), refused([201, 1, 128], 3)]
     lines += [refused([3, 1, 2, 3, 1, 1], 3), refused([3, 1, 2, 3, 1, 1, 1], 5), refused([2, 1, 1, 1, 9], 5)]
@@ -694,7 +702,7 @@ def is_known(a, b):
     """What holds of the sum and the product of two codes, whatever the maps: the components of a sum are those of both; a cycle of k points and one of l make as many
     cycles as their greatest common divisor says, and a pair is as far from its cycle as the half that is further off."""
     systems = [*map(model.accepted, (a, b))]
-    (rows, height, _), (others, other_height, _) = [model.census_of_map(model.map_of_system(system)) for system in systems]
+    (rows, height), (others, other_height) = [model.census_of_map(model.map_of_system(system)) for system in systems]
     counts = {}
     for k, count in rows:
         for l, other in others:
@@ -704,7 +712,7 @@ def is_known(a, b):
     assert kind == "refused" or sorted(model.accepted(total)) == sorted(systems[0] + systems[1]), (a, b)
     kind, product = model.product_of_codes(a, b, None)
     if kind == "length":
-        found, greatest, _ = model.census_of_map(model.map_of_system(model.accepted(product)))
+        found, greatest = model.census_of_map(model.map_of_system(model.accepted(product)))
         assert found == sorted(counts.items()) and greatest == (max(height, other_height) if rows and others else 0), (a, b)
 
 
@@ -921,6 +929,77 @@ def table_counts():
     return [list(line) for line in dict.fromkeys(map(tuple, lines))]
 
 
+# ---- periods
+
+
+def small_periods():
+    """Every map of up to 4 points. Up to 5 points the model has to give the number of steps after which each point is back."""
+    tables = [list(table) for n in range(6) for table in itertools.product(range(n), repeat=n)]
+    assert all(model.period_of_map(table) == model.period_by_steps(table) for table in tables)
+    return [period(table) for table in tables if len(table) < 5]
+
+
+def with_cycles(lengths, n=0):
+    """A map with cycles of these lengths. Where it is to have more points, the others hang in a row at the last one."""
+    table = joined(*map(cycle_map, lengths))
+    return table + list(range(len(table) - 1, n - 1))
+
+
+def chosen_periods():
+    """Cycles of chosen lengths with the period that follows from these: bare ones, with a way to them, and a shuffled copy. The greatest of all takes more than 32 bits,
+    and those of 112 to 119 points take all of them."""
+    numbers = Numbers(59)
+    small = [(6, [2, 3]), (6, [3, 2]), (12, [3, 4]), (12, [4, 6]), (12, [6, 4, 1]), (4, [4, 4]), (8, [2, 4, 8]), (8, [8, 2, 4]), (6, [1, 2, 3, 6]), (36, [4, 9])]
+    small += [(30, [6, 10, 15]), (60, [3, 4, 5]), (60, [12, 15, 20]), (210, [2, 3, 5, 7]), (72, [8, 9]), (1, [1] * 7), (2, [2] * 5 + [1]), (143, [11, 13])]
+    large = [(1, [1] * 120), (120, [120]), (119, [119]), (113, [113]), (791, [113, 7]), (3540, [59, 60]), (2, [2] * 60), (3, [3] * 40), (64, [64, 32, 16, 8])]
+    large += [(81, [3, 9, 27, 81]), (360360, list(range(1, 16))), (360360, list(range(15, 0, -1))), (223092870, [2, 3, 5, 7, 11, 13, 17, 19, 23])]
+    large += [(2677114440, [5, 7, 8, 9, 11, 13, 17, 19, 23]), (3375492120, [29, 19, 17, 13, 11, 9, 8, 7, 5]), (5354228880, [5, 7, 9, 11, 13, 16, 17, 19, 23])]
+    large.append((5354228880, [23, 19, 17, 16, 13, 11, 9, 7, 5]))
+    lines = []
+    for most, lists in ((20, small), (120, large)):
+        for expected, lengths in lists:
+            tables = [with_cycles(lengths), with_cycles(lengths, most)]
+            tables.append(renamed(tables[1], numbers.shuffled(len(tables[1]))))
+            lines += [period(table) for table in tables]
+            assert all(line[-4:-2] == [KINDS["number"], expected] for line in lines[-3:]), lengths
+            assert expected > 5000 or all(model.period_by_steps(table) == expected for table in tables), lengths
+    return lines
+
+
+def periods_by_chance():
+    """Random maps of 5 to 120 points: any, connected ones, permutations, and cycles of a few points with trees at them."""
+    numbers = Numbers(61)
+    tables = [path_map(120), star(120)]
+    for i in range(14):
+        n, few = 5 + numbers.below(116 if i % 2 else 20), [1 + numbers.below(12) for _ in range(1 + numbers.below(6))]
+        tables += [random_map(numbers, n), hung(numbers, n, 1 + numbers.below(n)), numbers.shuffled(n)]
+        cycles = with_cycles(few)
+        tables.append(cycles + [numbers.below(x) for x in range(len(cycles), len(cycles) + numbers.below(121 - len(cycles)))])
+    assert all(len(table) <= 120 and (model.period_of_map(table) > 5000 or model.period_of_map(table) == model.period_by_steps(table)) for table in tables)
+    return [period(table) for table in tables]
+
+
+def refused_periods():
+    """Counts at which 1, 13 and 2 change, and some that are small where they are cut to a byte: a map, and tables with a byte that is no point at the first place, the
+    last one, another one or all."""
+    def given(cause, *tables):
+        lines = [period(*table) for table in tables]
+        assert all(line[-4:-2] == [KINDS["refused"], cause] for line in lines), lines
+        return lines
+
+    lines = [line for n in (1, 2, 5, 60, 119, 120) for line in given(2, ([n], n), ([255], n), ([n] + [0] * (n - 1),), ([0] * (n - 1) + [n],))]
+    lines += given(2, ([0] * 77 + [120] + [1] * 42,), ([*range(119), 120],), ([200], 120), ([128], 120), ([121], 120))
+    for n in (121, 122, 127, 128, 129, 199, 200):
+        lines += given(13, ([0], n), ([1, 0], n), ([n], n), ([255], n), ([n] + [0] * (n - 1),), ([0] * (n - 1) + [255],))
+    lines += given(13, (cycle_map(121),), (cycle_map(200),), (list(range(121)),))
+    return lines + [line for n in (201, 202, 255, 256, 257, 261, 320, 376, 512, 1000, 9999, 10000) for line in given(1, ([0], n), ([255], n), ([1, 0], n))]
+
+
+def periods():
+    lines = small_periods() + chosen_periods() + periods_by_chance() + refused_periods()
+    return [list(line) for line in dict.fromkeys(map(tuple, lines))]
+
+
 # ---- pages
 
 
@@ -1032,7 +1111,7 @@ def main():
     files += [("examples", examples()), ("damaged", damaged()), ("damaged_long", damaged_long()), ("reordered", reordered()), ("hostile", hostile())]
     files += [("keystrokes", keystrokes()), ("rooms", rooms()), ("steps", steps()), ("steps_back", steps_back()), ("codes", codes_of_maps()), ("census", censuses())]
     files += [("components", components()), ("pages", pages()), ("pages_long", pages_long()), ("pairs", pairs())]
-    files += [("sums", sums()), ("sums_long", sums_long()), ("products_long", products_long()), ("table_counts", table_counts())]
+    files += [("sums", sums()), ("sums_long", sums_long()), ("products_long", products_long()), ("table_counts", table_counts()), ("periods", periods())]
     other = sum(not save(name, lines) for name, lines in files)
     print(f"{len(files)} files in {os.path.relpath(MADE)}, {other} not as in crates/checks/data")
     return 1 if other else 0

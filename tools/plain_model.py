@@ -9,9 +9,10 @@ import math
 
 from plain_listing import components_of_map, least_rotation, merges, parent, parts, tree_code
 
-COUNT, IMAGE, TRUNCATED, NUMBER_FORM, SIZES, NOT_CANONICAL, TRAILING, ROOM, POSITION, WANTED, TOO_LARGE, UNCOUNTED = range(1, 13)
+COUNT, IMAGE, TRUNCATED, NUMBER_FORM, SIZES, NOT_CANONICAL, TRAILING, ROOM, POSITION, WANTED, TOO_LARGE, UNCOUNTED, TOO_MANY_POINTS = range(1, 14)
 MOST_WANTED = 1000
 MOST_COUNTED = 15
+MOST_PERIOD_POINTS = 120
 
 
 class Refused(Exception):
@@ -324,7 +325,7 @@ def map_of_system(system):
 
 
 def census_of_map(table):
-    """The rows (length, number of cycles), the greatest distance of a point from its cycle, and the longest cycle."""
+    """The rows (length, number of cycles), and the greatest distance of a point from its cycle."""
     def distance(x):
         seen = []
         while x not in seen:
@@ -335,7 +336,7 @@ def census_of_map(table):
     walks = [distance(x) for x in range(len(table))]
     lengths = [length for away, length in walks if away == 0]
     rows = [(length, lengths.count(length) // length) for length in sorted(set(lengths))]
-    return rows, max([away for away, _ in walks], default=0), max(lengths, default=0)
+    return rows, max([away for away, _ in walks], default=0)
 
 
 # ---- sum and product of two maps: points have whatever names are at hand, and a map is a dictionary of arrows
@@ -393,6 +394,35 @@ def renamings(table):
         count *= sum(form == forms[x] for form in forms.values())
         marks[x] = x + 1
     return count
+
+
+# ---- the period of a map, which the paper calls round length
+
+
+def settled(table):
+    """Where each point has come to once every point is on a cycle; as many steps as there are points are enough."""
+    places = list(range(len(table)))
+    for _ in table:
+        places = [table[x] for x in places]
+    return places
+
+
+def period_by_steps(table):
+    """By the words of the paper: once every point is on a cycle, all are moved on together until each is back, for the first time after at least one step."""
+    start = settled(table)
+    places, steps = [table[x] for x in start], 1
+    while places != start:
+        places, steps = [table[x] for x in places], steps + 1
+    return steps
+
+
+def period_of_map(table):
+    """The same number without making that many steps: a point on a cycle is back after as many steps as the cycle has points, after twice as many and so on, and at no
+    other time. tools/make_data.py holds it against the steps."""
+    period = 1
+    for length in {len(walk(table, x)) for x in settled(table)}:
+        period = period * length // math.gcd(period, length)
+    return period
 
 
 # ---- the entries: what each answers, given the room of the lent output
@@ -495,12 +525,12 @@ def census(table, room):
         return census_of_map(checked(table))
 
     try:
-        rows, height, longest = work()
+        rows, height = work()
     except Refused as cause:
         return "refused", cause.args[0]
     if len(rows) > room:
         return "refused", ROOM
-    return "census", (rows, height, longest)
+    return "census", (rows, height)
 
 
 def turns(c):
@@ -530,3 +560,13 @@ def table_count(code):
     except Refused as cause:
         return "refused", cause.args[0]
     return "number", math.factorial(len(table)) // renamings(table)
+
+
+def period(table):
+    """The period of a map, or a refusal: 1, then 13, then 2."""
+    if MOST_PERIOD_POINTS < len(table) <= 200:
+        return "refused", TOO_MANY_POINTS
+    try:
+        return "number", period_of_map(checked(table))
+    except Refused as cause:
+        return "refused", cause.args[0]

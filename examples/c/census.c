@@ -1,4 +1,4 @@
-/* census: prints the census of some maps, the number of cycles of each length that occurs, by rising length; then the height and the longest cycle. */
+/* census: prints the census of some maps, the number of cycles of each length that occurs, by rising length; then the height. */
 #include <stdio.h>
 
 #include "lethmuok.h"
@@ -10,7 +10,7 @@ static void print_census(const char *name, const uint8_t *table, size_t n)
     printf("%s:", name);
     for (int64_t i = 0; i < rows; i++)
         printf(" %d of %d,", counts[i], lengths[i]);
-    printf(" height %d, longest %d\n", (int)lethmuok_height(table, n), (int)lethmuok_longest_cycle(table, n));
+    printf(" height %d\n", (int)lethmuok_height(table, n));
 }
 
 /* A cycle of 29 points, and then cycles of 18, 17 and so on to 1: 200 points. */

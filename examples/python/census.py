@@ -1,11 +1,11 @@
-"""census: prints the census of some maps, the number of cycles of each length that occurs, by rising length; then the height and the longest cycle."""
+"""census: prints the census of some maps, the number of cycles of each length that occurs, by rising length; then the height."""
 
 import lethmuok
 
 
 def print_census(name, table):
-    rows, height, longest = lethmuok.census(table)
-    print("%s:%s height %d, longest %d" % (name, "".join(" %d of %d," % (count, length) for length, count in rows), height, longest))
+    rows, height = lethmuok.census(table)
+    print("%s:%s height %d" % (name, "".join(" %d of %d," % (count, length) for length, count in rows), height))
 
 
 def falling():

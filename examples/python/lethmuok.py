@@ -27,6 +27,7 @@ CAUSES = {
     10: "more than 1,000 codes are wanted",
     11: "the result has more than 200 points",
     12: "the code has more than 15 points, and its tables are not counted",
+    13: "the table has more than 120 points, and its period is not told",
 }
 _LAST = -100
 _NONE = -101
@@ -167,12 +168,18 @@ def isomorphism(f, g):
 
 
 def census(table):
-    """A row for each cycle length that occurs, rising, with its number of cycles; the height; and the longest cycle."""
+    """A row for each cycle length that occurs, rising, with its number of cycles; and the height, the greatest distance of a point from its cycle."""
     lengths, counts = _room(_MAX_ENTRIES), _room(_MAX_ENTRIES)
     given = _given(table)
     entries = _call("lethmuok_census", given, lengths, counts)
     rows = list(zip(lengths[:entries], counts[:entries]))
-    return rows, _call("lethmuok_height", given), _call("lethmuok_longest_cycle", given)
+    return rows, _call("lethmuok_height", given)
+
+
+def period(table):
+    """The least number of steps, at least 1, that bring each point of a map back once every point is on a cycle: the least common multiple of the cycle lengths, and 1
+    for no points. The map may have 120 points."""
+    return _call("lethmuok_period", _given(table))
 
 
 def component(code, position):

@@ -1,4 +1,4 @@
-//! census: prints the census of some maps, the number of cycles of each length that occurs, by rising length; then the height and the longest cycle.
+//! census: prints the census of some maps, the number of cycles of each length that occurs, by rising length; then the height.
 
 #[allow(dead_code)]
 mod lethmuok;
@@ -19,7 +19,7 @@ fn print_census(name: &str, table: &[u8]) {
     for (length, count) in lengths.iter().zip(counts).take(rows) {
         print!(" {count} of {length},");
     }
-    println!(" height {}, longest {}", number(lethmuok::height(table)), number(lethmuok::longest_cycle(table)));
+    println!(" height {}", number(lethmuok::height(table)));
 }
 
 /// A cycle of 29 points, and then cycles of 18, 17 and so on to 1: 200 points.

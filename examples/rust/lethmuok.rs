@@ -31,10 +31,11 @@ causes! {
     Wanted = 10, "more than 1,000 codes are wanted";
     TooLarge = 11, "the result has more than 200 points";
     Uncounted = 12, "the code has more than 15 points, and its tables are not counted";
+    TooManyPoints = 13, "the table has more than 120 points, and its period is not told";
 }
 
-/// What every function answers but `predecessor`, `page`, `component` and `table_count`. A result fills the first places of its buffer; with another reply than a number
-/// all buffers are kept.
+/// What every function answers but `predecessor`, `page`, `period`, `component` and `table_count`. A result fills the first places of its buffer; with another reply than
+/// a number all buffers are kept.
 #[derive(Clone, Copy, Debug, PartialEq, Eq)]
 pub enum Reply {
     /// the length of what was written, or the number that was asked for
@@ -64,11 +65,12 @@ pub struct Page {
 }
 
 /// 1,000 bytes hold every code, 19 entries every census. No more than 1,000 codes may be wanted, which `MAX_WANTED * MAX_CODE` bytes hold. Tables are counted of codes of
-/// at most 15 points.
+/// at most 15 points, and the period is told of maps of at most 120.
 pub const MAX_CODE: usize = 1000;
 pub const MAX_ENTRIES: usize = 19;
 pub const MAX_WANTED: usize = 1000;
 pub const MAX_COUNTED: usize = 15;
+pub const MAX_PERIOD_POINTS: usize = 120;
 
 mod c {
     #[repr(C)]
@@ -90,7 +92,7 @@ mod c {
         pub fn lethmuok_isomorphism(f: *const u8, f_len: usize, g: *const u8, g_len: usize, out: *mut u8, out_len: usize) -> i64;
         pub fn lethmuok_census(table: *const u8, n: usize, lengths: *mut u8, lengths_len: usize, counts: *mut u8, counts_len: usize) -> i64;
         pub fn lethmuok_height(table: *const u8, n: usize) -> i64;
-        pub fn lethmuok_longest_cycle(table: *const u8, n: usize) -> i64;
+        pub fn lethmuok_period(table: *const u8, n: usize) -> i64;
         pub fn lethmuok_component_start(code: *const u8, code_len: usize, position: usize) -> i64;
         pub fn lethmuok_component_end(code: *const u8, code_len: usize, position: usize) -> i64;
         pub fn lethmuok_component_turns(code: *const u8, code_len: usize, position: usize) -> i64;
@@ -106,6 +108,14 @@ impl From<i64> for Reply {
             length if length >= 0 => Reply::Number(length as usize),
             other => Reply::Refused(refusal(-other).expect("the library has no other answers")),
         }
+    }
+}
+
+/// A number that may need more than 32 bits, or a refusal.
+fn quantity(number: i64) -> Result<u64, Refusal> {
+    match number {
+        number if number >= 0 => Ok(number as u64),
+        other => Err(refusal(-other).expect("the library has no other answers")),
     }
 }
 
@@ -183,9 +193,10 @@ pub fn height(table: &[u8]) -> Reply {
     unsafe { c::lethmuok_height(table.as_ptr(), table.len()) }.into()
 }
 
-/// The length of the longest cycle of a map.
-pub fn longest_cycle(table: &[u8]) -> Reply {
-    unsafe { c::lethmuok_longest_cycle(table.as_ptr(), table.len()) }.into()
+/// The period of a map, which may have `MAX_PERIOD_POINTS` points: the least number of steps, at least 1, that bring each point back once every point is on a cycle. That
+/// is the least common multiple of the cycle lengths, and 1 for no points.
+pub fn period(table: &[u8]) -> Result<u64, Refusal> {
+    quantity(unsafe { c::lethmuok_period(table.as_ptr(), table.len()) })
 }
 
 /// The bytes of the component at a position, counted from 0, as a part of the code.
@@ -206,8 +217,5 @@ pub fn component_turns(code: &[u8], position: usize) -> Reply {
 
 /// How many tables of as many points have this code, which may have `MAX_COUNTED` points: over all codes of n points these numbers make n to the power n.
 pub fn table_count(code: &[u8]) -> Result<u64, Refusal> {
-    match unsafe { c::lethmuok_table_count(code.as_ptr(), code.len()) } {
-        tables if tables >= 0 => Ok(tables as u64),
-        other => Err(refusal(-other).expect("the library has no other answers")),
-    }
+    quantity(unsafe { c::lethmuok_table_count(code.as_ptr(), code.len()) })
 }

@@ -2,10 +2,10 @@
 
 use crate::component::Component;
 use crate::count::tables;
-use crate::map::{checked, cycle_lengths, height as height_of, in_pairs, map_of_system, side_by_side, system_of_map};
+use crate::map::{checked, cycle_lengths, height as height_of, in_pairs, map_of_system, period as period_of, side_by_side, system_of_map};
 use crate::system::{accepted, predecessor as previous, successor as next};
 use crate::written::write;
-use crate::{Cause, MOST_COUNTED, MOST_POINTS, MOST_WANTED};
+use crate::{Cause, MOST_COUNTED, MOST_PERIOD_POINTS, MOST_POINTS, MOST_WANTED};
 
 /// The reply of a successor entry to the last code of its count.
 pub const LAST: i64 = -100;
@@ -143,8 +143,12 @@ pub fn height(table: &[u8]) -> i64 {
     reply(checked(table).map(|()| height_of(table) as i64))
 }
 
-pub fn longest_cycle(table: &[u8]) -> i64 {
-    reply(checked(table).map(|()| cycle_lengths(table).last().map_or(0, |&(length, _)| length as i64)))
+/// 13 stands between the two checks of a table.
+pub fn period(table: &[u8]) -> i64 {
+    if (MOST_PERIOD_POINTS + 1..=MOST_POINTS).contains(&table.len()) {
+        return reply(Err(Cause::TooManyPoints));
+    }
+    reply(checked(table).map(|()| period_of(table) as i64))
 }
 
 /// Where the part of the component at a position starts and ends.

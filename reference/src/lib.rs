@@ -8,7 +8,8 @@
 //! The step back came later, and its author had read the notes after which the engine's is made; `tools/plain_model.py` looks for it by the step forward alone.
 //! Sum and product came later, too; their author had read the definitions, and numbers the points of a result otherwise than these do.
 //! So did the turns of a component; they are counted over all rotations, and share nothing with the test for the least one.
-//! The number of tables came last; its author knew by which formula the engine counts, and hands out names in its place.
+//! The number of tables came later; its author knew by which formula the engine counts, and hands out names in its place.
+//! The period came last; its author knew that the engine adds up multiples of the cycle lengths, and takes them apart into powers of primes.
 //!
 //! A reply is a length, n or another number that was asked for, minus the number of the cause of a refusal, or one of [`LAST`], [`NONE`] and [`FIRST`]; that of a page is
 //! two numbers, [`PageReply`].
@@ -41,6 +42,7 @@ pub enum Cause {
     Wanted = 10,
     TooLarge = 11,
     Uncounted = 12,
+    TooManyPoints = 13,
 }
 
 /// The most points that a map may have.
@@ -51,3 +53,6 @@ pub const MOST_WANTED: usize = 1000;
 
 /// The most points of a code whose tables are counted.
 pub const MOST_COUNTED: usize = 15;
+
+/// The most points of a map whose period is told.
+pub const MOST_PERIOD_POINTS: usize = 120;

@@ -187,6 +187,25 @@ pub fn cycle_lengths(table: &[u8]) -> Vec<(u8, u8)> {
     (0u8..).zip(counts).filter(|&(_, count)| count > 0).collect()
 }
 
+/// After how many steps all points on cycles are back for the first time (document 02, paper 8: round length). The least common multiple of the cycle lengths has as much
+/// of each prime as the length that has most of it.
+pub fn period(table: &[u8]) -> u64 {
+    let mut powers = [1; MOST_POINTS + 1];
+    for (length, _) in cycle_lengths(table) {
+        let (mut left, mut divisor) = (length as usize, 2);
+        while left > 1 {
+            let mut power = 1;
+            while left % divisor == 0 {
+                power *= divisor as u64;
+                left /= divisor;
+            }
+            powers[divisor] = power.max(powers[divisor]);
+            divisor += 1;
+        }
+    }
+    powers.iter().product()
+}
+
 /// The greatest distance of a point from its cycle.
 pub fn height(table: &[u8]) -> usize {
     let mut distance = vec![0; table.len()];

@@ -1,4 +1,4 @@
-//! The examples and totals of document 01, and the pages, steps back, sums, products, turns and numbers of tables of document 02.
+//! The examples and totals of document 01, and the pages, steps back, sums, products, turns, numbers of tables and periods of document 02.
 
 use crate::*;
 
@@ -84,7 +84,7 @@ fn census_and_components() {
     let (mut lengths, mut counts) = ([7; 3], [7; 3]);
     assert_eq!(census(&[1, 0, 2, 2], &mut lengths, &mut counts), 2);
     assert_eq!((lengths, counts), ([1, 2, 7], [1, 1, 7]));
-    assert_eq!((height(&[1, 0, 2, 2]), longest_cycle(&[1, 0, 2, 2])), (1, 2));
+    assert_eq!(height(&[1, 0, 2, 2]), 1);
     // the cycles are met by falling length, and the rows come by rising length
     let (mut lengths, mut counts) = ([7; 4], [7; 4]);
     assert_eq!(census(&[1, 2, 0, 4, 3, 5], &mut lengths, &mut counts), 3);
@@ -503,5 +503,120 @@ fn table_counts_are_counts_of_tables() {
 fn table_counts_make_all_tables() {
     for n in 0..=10 {
         assert_eq!(listing(n).iter().map(|code| table_count(code)).sum::<i64>(), (n as i64).pow(n as u32));
+    }
+}
+
+/// A map with cycles of these lengths, one after another. The points that are left hang at the last one in a row.
+fn with_cycles(n: usize, lengths: &[usize]) -> Vec<u8> {
+    let mut table: Vec<u8> = Vec::new();
+    for &length in lengths {
+        let start = table.len();
+        table.extend((0..length).map(|x| (start + (x + 1) % length) as u8));
+    }
+    table.extend((table.len()..n).map(|x| x as u8 - 1));
+    assert_eq!(table.len(), n);
+    table
+}
+
+#[test]
+fn periods() {
+    assert_eq!((period(&[]), period(&[1, 0, 2, 2])), (1, 2));
+    let all: Vec<usize> = (1..=15).collect();
+    let cases: [(usize, &[usize], i64); 16] = [
+        (5, &[2, 3], 6),
+        (5, &[3, 2], 6),
+        (120, &[2, 3], 6),
+        (1, &[1], 1),
+        (120, &[1], 1),
+        (120, &[1; 120], 1),
+        (120, &[120], 120),
+        (7, &[3, 4], 12),
+        // not the product, and not the longest
+        (10, &[4, 6], 12),
+        (8, &[4, 4], 4),
+        (14, &[8, 4, 2], 8),
+        (31, &[6, 10, 15], 30),
+        (120, &[60, 59], 3540),
+        (120, &all, 360_360),
+        // the greatest of 119 points and of 120: the one takes 32 bits, the other more
+        (119, &[5, 7, 8, 9, 11, 13, 17, 19, 29], 3_375_492_120),
+        (120, &[5, 7, 9, 11, 13, 16, 17, 19, 23], 5_354_228_880),
+    ];
+    for (n, lengths, expected) in cases {
+        assert_eq!(period(&with_cycles(n, lengths)), expected, "{n} {lengths:?}");
+    }
+}
+
+#[test]
+fn refused_periods() {
+    let bad = |n: usize, place: usize, byte: u8| {
+        let mut table = vec![0; n];
+        table[place] = byte;
+        table
+    };
+    for (n, reply) in [(120, 1), (121, -13), (122, -13), (128, -13), (199, -13), (200, -13), (201, -1), (256, -1), (376, -1), (10_000, -1)] {
+        assert_eq!(period(&vec![0; n]), reply, "{n}");
+        // a byte that is no point comes last
+        for place in [0, n / 2, n - 1] {
+            assert_eq!(period(&bad(n, place, 255)), if reply == 1 { -2 } else { reply }, "{n} {place}");
+        }
+    }
+    for n in [1, 2, 5, 119, 120] {
+        assert_eq!((period(&bad(n, n - 1, n as u8 - 1)), period(&bad(n, n - 1, n as u8)), period(&bad(n, 0, n as u8))), (1, -2, -2), "{n}");
+    }
+}
+
+/// The period by the words of the paper: when every point is on a cycle, all are moved step by step until each is back.
+fn tried(table: &[u8]) -> i64 {
+    let step = |points: &[u8]| points.iter().map(|&x| table[x as usize]).collect::<Vec<u8>>();
+    let settled = (0..table.len()).fold((0..table.len() as u8).collect::<Vec<u8>>(), |points, _| step(&points));
+    let (mut points, mut steps) = (step(&settled), 1);
+    while points != settled {
+        (points, steps) = (step(&points), steps + 1);
+    }
+    steps
+}
+
+#[test]
+fn periods_bring_each_point_back() {
+    for table in (0..=6).flat_map(every_table) {
+        assert_eq!(period(&table), tried(&table), "{table:?}");
+    }
+    let state = &mut 4;
+    for _ in 0..2000 {
+        let n = 1 + random(state, 40);
+        let table = some_map(state, n);
+        assert_eq!(period(&table), tried(&table), "{table:?}");
+    }
+}
+
+/// The greatest periods of 0 to 120 points: a length that is a power of a prime joins shorter lists, one power of each prime.
+fn greatest_periods() -> Vec<i64> {
+    let mut greatest = vec![1; MOST_PERIOD_POINTS + 1];
+    for prime in (2..=MOST_PERIOD_POINTS).filter(|&x| (2..x).all(|divisor| x % divisor > 0)) {
+        for n in (prime..=MOST_PERIOD_POINTS).rev() {
+            let powers = std::iter::successors(Some(prime), |&power| Some(power * prime)).take_while(|&power| power <= n);
+            greatest[n] = powers.map(|power| power as i64 * greatest[n - power]).fold(greatest[n], i64::max);
+        }
+    }
+    greatest
+}
+
+#[test]
+fn no_period_is_above_the_greatest() {
+    let greatest = greatest_periods();
+    // Landau's function, OEIS A000793
+    assert_eq!(greatest[..16], [1, 1, 2, 3, 4, 6, 6, 12, 15, 20, 30, 30, 60, 60, 84, 105]);
+    assert_eq!((greatest[100], greatest[120]), (232_792_560, 5_354_228_880));
+    let state = &mut 5;
+    for _ in 0..5000 {
+        let n = 1 + random(state, MOST_PERIOD_POINTS);
+        let (mut lengths, mut left) = (Vec::new(), n);
+        while left > 0 {
+            lengths.push(1 + random(state, left.min(30)));
+            left -= lengths[lengths.len() - 1];
+        }
+        let found = period(&with_cycles(n, &lengths));
+        assert!((1..=greatest[n]).contains(&found) && lengths.iter().all(|&length| found % length as i64 == 0), "{lengths:?}");
     }
 }

@@ -22,7 +22,7 @@ static void map_of_code(void) { lethmuok_map_of_code(code, code_len, out, sizeof
 static void isomorphism(void) { lethmuok_isomorphism(table, table_len, other, table_len, out, sizeof out); }
 static void census(void) { lethmuok_census(table, table_len, out, sizeof out, counts, sizeof counts); }
 static void height(void) { lethmuok_height(table, table_len); }
-static void longest_cycle(void) { lethmuok_longest_cycle(table, table_len); }
+static void period(void) { lethmuok_period(table, table_len); }
 static void component_start(void) { lethmuok_component_start(code, code_len, 0); }
 static void component_end(void) { lethmuok_component_end(code, code_len, 0); }
 static void component_turns(void) { lethmuok_component_turns(code, code_len, 0); }
@@ -53,7 +53,7 @@ static struct entry {
 } entries[] = {
     {"accept", accept, 0}, {"first", first, 0}, {"successor", successor, 0}, {"predecessor", predecessor, 0}, {"page", page, 0}, {"code_of_map", code_of_map, 0},
     {"map_of_code", map_of_code, 0}, {"sum", sum, 0}, {"product", product, 0}, {"isomorphism", isomorphism, 0}, {"census", census, 0}, {"height", height, 0},
-    {"longest_cycle", longest_cycle, 0}, {"component_start", component_start, 0}, {"component_end", component_end, 0}, {"component_turns", component_turns, 0},
+    {"period", period, 0}, {"component_start", component_start, 0}, {"component_end", component_end, 0}, {"component_turns", component_turns, 0},
     {"table_count", table_count, 0},
 };
 enum { ENTRIES = sizeof entries / sizeof entries[0] };
@@ -103,14 +103,23 @@ static unsigned below(unsigned n)
     return (state >> 8) % n;
 }
 
+/* Cycles of 1, 2, 3 and so on points; the last one has as many as are left. */
+static unsigned along_rising_cycles(unsigned x, unsigned n)
+{
+    unsigned start = 0, length = 1;
+    while (start + length <= x)
+        start += length++;
+    return x + 1 < start + length && x + 1 < n ? x + 1 : start;
+}
+
 static void shapes(unsigned n)
 {
-    for (int shape = 0; shape < 11; shape++) {
+    for (int shape = 0; shape < 12; shape++) {
         for (unsigned x = 0; x < n; x++) {
             unsigned before = x ? x - 1 : 0;
             unsigned comb = x < n / 2 ? before : x - n / 2, pairs = x % 2 ? x - 1 : (x + 1) % n, two_paths = x == n / 2 ? x : before;
             unsigned fork = x == n - 1 ? n - 3 : before, doubled = x < 2 ? 0 : x - 2, periodic = x < n / 2 ? (x + 1) % (n / 2) : x - n / 2;
-            unsigned images[] = {before, (x + 1) % n, 0, x, before / 2, comb, pairs, two_paths, fork, doubled, periodic};
+            unsigned images[] = {before, (x + 1) % n, 0, x, before / 2, comb, pairs, two_paths, fork, doubled, periodic, along_rising_cycles(x, n)};
             table[x] = (uint8_t)images[shape];
         }
         all_entries(n);
@@ -121,7 +130,8 @@ int main(void)
 {
     shapes(200);
     shapes(128);
-    /* the most points of which tables are counted */
+    /* the most points of a map whose period is told, and of which tables are counted */
+    shapes(LETHMUOK_MAX_PERIOD_POINTS);
     shapes(LETHMUOK_MAX_COUNTED);
     for (int i = 0; i < RANDOM_MAPS; i++) {
         unsigned n = 1 + below(200), kind = below(3);

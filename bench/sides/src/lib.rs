@@ -19,14 +19,14 @@ pub struct Side {
     pub isomorphism: fn(&[u8], &[u8], &mut [u8]) -> i64,
     pub census: fn(&[u8], &mut [u8], &mut [u8]) -> i64,
     pub height: fn(&[u8]) -> i64,
-    pub longest_cycle: fn(&[u8]) -> i64,
+    pub period: fn(&[u8]) -> i64,
     pub component_start: fn(&[u8], usize) -> i64,
     pub component_end: fn(&[u8], usize) -> i64,
     pub component_turns: fn(&[u8], usize) -> i64,
     pub table_count: fn(&[u8]) -> i64,
 }
 
-pub use reference::{PageReply, FIRST, LAST, MOST_COUNTED, MOST_WANTED, NONE};
+pub use reference::{PageReply, FIRST, LAST, MOST_COUNTED, MOST_PERIOD_POINTS, MOST_WANTED, NONE};
 
 /// Bytes that hold every page.
 pub const EVERY_PAGE: usize = 1_000_000;
@@ -46,6 +46,9 @@ pub const HAS_TURNS: bool = cfg!(not(without_component_turns));
 /// The same of the entry `table_count`.
 pub const HAS_TABLE_COUNT: bool = cfg!(not(without_table_count));
 
+/// The same of the entry `period`.
+pub const HAS_PERIOD: bool = cfg!(not(without_period));
+
 pub const REFERENCE: Side = Side {
     name: "reference",
     accept: reference::accept,
@@ -60,7 +63,7 @@ pub const REFERENCE: Side = Side {
     isomorphism: reference::isomorphism,
     census: reference::census,
     height: reference::height,
-    longest_cycle: reference::longest_cycle,
+    period: reference::period,
     component_start: reference::component_start,
     component_end: reference::component_end,
     component_turns: reference::component_turns,
@@ -87,7 +90,8 @@ mod c {
         pub fn lethmuok_isomorphism(f: *const u8, n: usize, g: *const u8, m: usize, out: *mut u8, room: usize) -> i64;
         pub fn lethmuok_census(table: *const u8, n: usize, lengths: *mut u8, room: usize, counts: *mut u8, other: usize) -> i64;
         pub fn lethmuok_height(table: *const u8, n: usize) -> i64;
-        pub fn lethmuok_longest_cycle(table: *const u8, n: usize) -> i64;
+        #[cfg(not(without_period))]
+        pub fn lethmuok_period(table: *const u8, n: usize) -> i64;
         pub fn lethmuok_component_start(code: *const u8, len: usize, position: usize) -> i64;
         pub fn lethmuok_component_end(code: *const u8, len: usize, position: usize) -> i64;
         #[cfg(not(without_component_turns))]
@@ -126,7 +130,10 @@ pub const ENGINE: Side = Side {
         c::lethmuok_census(table.as_ptr(), table.len(), lengths.as_mut_ptr(), lengths.len(), counts.as_mut_ptr(), counts.len())
     },
     height: |table| unsafe { c::lethmuok_height(table.as_ptr(), table.len()) },
-    longest_cycle: |table| unsafe { c::lethmuok_longest_cycle(table.as_ptr(), table.len()) },
+    #[cfg(not(without_period))]
+    period: |table| unsafe { c::lethmuok_period(table.as_ptr(), table.len()) },
+    #[cfg(without_period)]
+    period: |_| panic!("this library has no period"),
     component_start: |code, position| unsafe { c::lethmuok_component_start(code.as_ptr(), code.len(), position) },
     component_end: |code, position| unsafe { c::lethmuok_component_end(code.as_ptr(), code.len(), position) },
     #[cfg(not(without_component_turns))]

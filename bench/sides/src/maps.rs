@@ -46,6 +46,16 @@ pub fn every_cycle(n: usize, _: &mut Random) -> Vec<u8> {
     images
 }
 
+/// Cycles of these lengths, one after another.
+pub fn with_cycles(lengths: &[usize]) -> Vec<u8> {
+    let mut images = Vec::new();
+    for &length in lengths {
+        let start = images.len();
+        images.extend((0..length).map(|x| (start + (x + 1) % length) as u8));
+    }
+    images
+}
+
 /// A random permutation.
 pub fn cycles(n: usize, random: &mut Random) -> Vec<u8> {
     let images = random.permutation(n);

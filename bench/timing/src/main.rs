@@ -7,7 +7,7 @@ mod labelg;
 mod work;
 
 use clock::own_seconds;
-use sides::{Side, ENGINE, HAS_PAGE, HAS_PREDECESSOR, HAS_SUM, HAS_TABLE_COUNT, HAS_TURNS, REFERENCE};
+use sides::{Side, ENGINE, HAS_PAGE, HAS_PERIOD, HAS_PREDECESSOR, HAS_SUM, HAS_TABLE_COUNT, HAS_TURNS, REFERENCE};
 use work::Work;
 
 /// Each work is repeated so often, what is compared taking turns.
@@ -81,6 +81,9 @@ fn main() {
     }
     table("Isomorphism of two maps of 200 points", work::isomorphisms());
     table("Census of a map of 200 points", work::censuses());
+    if HAS_PERIOD {
+        table("Period of a map of 120 points", work::periods());
+    }
     table("Accept, on codes of 200 points and on other bytes", work::acceptances());
     table("Where the components of codes of 200 points begin", work::starts_of_components());
     if HAS_TURNS {

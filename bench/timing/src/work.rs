@@ -1,8 +1,8 @@
 //! The works that are timed.
 
-use sides::maps::{is_isomorphism, shuffled, uniform, Kind, KINDS, PERIODIC};
+use sides::maps::{is_isomorphism, shuffled, uniform, with_cycles, Kind, KINDS, PERIODIC};
 use sides::random::Random;
-use sides::{code_of, written, Side, ENGINE, EVERY_PAGE, MOST_COUNTED, MOST_WANTED, REFERENCE};
+use sides::{code_of, written, Side, ENGINE, EVERY_PAGE, MOST_COUNTED, MOST_PERIOD_POINTS, MOST_WANTED, REFERENCE};
 
 /// A work: what one side does of it, in so many calls, and whether both sides get the same.
 pub struct Work {
@@ -298,10 +298,14 @@ pub fn turns_of_components() -> Vec<Work> {
     read_codes().into_iter().map(|(name, codes)| reads(format!("turns: {name}"), |side| side.component_turns, &codes)).collect()
 }
 
-/// The number of tables of each of these codes. It is compared as it is, since it is more than any output has places.
-fn counts(name: &str, codes: Vec<Vec<u8>>) -> Work {
-    let timed = a_thousand(calls(&format!("table count: {name}"), codes.clone(), |side, code, _| (side.table_count)(code), equal));
-    Work { agree: Box::new(move || codes.iter().all(|code| (ENGINE.table_count)(code) == (REFERENCE.table_count)(code))), ..timed }
+/// An entry that answers one number about its input.
+type Quantity = fn(&Side) -> fn(&[u8]) -> i64;
+
+/// The number of each of these inputs. It is compared as it is, since it is more than any output has places.
+fn quantities(name: String, entry: Quantity, inputs: Vec<Vec<u8>>) -> Work {
+    let asked = inputs.iter().map(|input| (entry, input.clone())).collect();
+    let timed = a_thousand(calls(&name, asked, |side, (entry, input), _| entry(side)(input), equal));
+    Work { agree: Box::new(move || inputs.iter().all(|input| entry(&ENGINE)(input) == entry(&REFERENCE)(input))), ..timed }
 }
 
 /// Of each kind of map, two equal components, and what it takes to refuse a code of 200 points.
@@ -310,9 +314,27 @@ pub fn table_counts() -> Vec<Work> {
         let random = &mut Random::new(5);
         (0..100).map(|_| code_of(&kind(n, random))).collect::<Vec<_>>()
     };
+    let counts = |name: &str, codes| quantities(format!("table count: {name}"), |side| side.table_count, codes);
     let twins = [&[15, 3, 1, 1][..], &[1, 7, 3, 1, 1, 3, 1, 1].repeat(2)].concat();
     let others = [counts("a fixed point and two equal trees of 7", vec![twins]), counts("random, 200 points, refused", codes(KINDS[0], POINTS))];
     KINDS.into_iter().chain(PERIODIC).map(|kind| counts(kind.0, codes(kind, MOST_COUNTED))).chain(others).collect()
+}
+
+/// Of each kind of map, of the greatest period, of as many lengths as there can be, of two long cycles, and what it takes to refuse a byte that is no point.
+pub fn periods() -> Vec<Work> {
+    let works = |name: &str, tables| quantities(format!("period: {name}"), |side| side.period, tables);
+    let tables = |(_, kind): Kind| {
+        let random = &mut Random::new(6);
+        (0..100).map(|_| kind(MOST_PERIOD_POINTS, random)).collect::<Vec<_>>()
+    };
+    let no_point = (0..MOST_PERIOD_POINTS as u8).map(|x| if x == 119 { 120 } else { x }).collect();
+    let others = [
+        works("the greatest, cycles of 5, 7, 9, 11, 13, 16, 17, 19 and 23", vec![with_cycles(&[5, 7, 9, 11, 13, 16, 17, 19, 23])]),
+        works("cycles of 1 to 15", vec![with_cycles(&(1..=15).collect::<Vec<_>>())]),
+        works("cycles of 60 and 59, and a fixed point", vec![with_cycles(&[60, 59, 1])]),
+        works("fixed points, the last byte no point, refused", vec![no_point]),
+    ];
+    KINDS.into_iter().map(|kind| works(kind.0, tables(kind))).chain(others).collect()
 }
 
 /// The length of a hostile input.

@@ -46,6 +46,10 @@ given-small S x e =
     let y : x ≡ written S = cc in
     (y, ltb-false 200 (weight S) t))
 
+-- the code of a map is accepted, and is that of its system
+pub table-accepted : (f : List ℕ) → isTable f ≡ true → length f ≤ 200 → accepted (written (systemOfTable f)) ≡ done (systemOfTable f)
+table-accepted f t h = written-back (systemOfTable f) (table-canonical (length f) f refl t) (omega (arith, table-weight (length f) f refl t))
+
 -- What is found of two codes by an operation.
 module _ {op : List ℕ → List ℕ → List ℕ} {count : ℕ → ℕ → ℕ} (o : Operation op count) where
   -- both are accepted
@@ -105,12 +109,9 @@ module _ {op : List ℕ → List ℕ → List ℕ} {count : ℕ → ℕ → ℕ}
   pub combined-maps : (f g : List ℕ) → isTable f ≡ true → isTable g ≡ true → length f ≤ 200 → length g ≤ 200
       → combined op (written (systemOfTable f)) (written (systemOfTable g)) ≡ codeOfResult (op f g)
   combined-maps f g t u h k =
-      both-found (written (systemOfTable f)) (written (systemOfTable g)) (systemOfTable f) (systemOfTable g) (back f t h) (back g u k)
+      both-found (written (systemOfTable f)) (written (systemOfTable g)) (systemOfTable f) (systemOfTable g) (table-accepted f t h) (table-accepted g u k)
       ∙ ap codeOfSystem (sym (made-systems o f g t u))
       ∙ sym (result-system (op f g) (o .makes-table f g t u))
-    where
-      back : (f : List ℕ) → isTable f ≡ true → length f ≤ 200 → accepted (written (systemOfTable f)) ≡ done (systemOfTable f)
-      back f t h = written-back (systemOfTable f) (table-canonical (length f) f refl t) (omega (arith, table-weight (length f) f refl t))
 
 pub sum-codes-commute : (a b : List ℕ) (S : System) → accepted a ≡ done S → sumOfCodes a b ≡ sumOfCodes b a
 unfolding sumOfCodes

@@ -4,3 +4,4 @@ pub mod Measures
 pub mod Parts
 pub mod Pages
 pub mod CountFits
+pub mod PeriodFits

@@ -1,4 +1,4 @@
--- The numbers of a census: a table of at most 200 points has at most 19 rows, and height and longest cycle are at most its number of points.
+-- The numbers of a census: a table of at most 200 points has at most 19 rows, and its height is at most its number of points.
 use mathlib.Core.Path.{_≡_, refl, sym, ap, _∙_, subst}
 use mathlib.Core.Bool.{true}
 use mathlib.Core.List.{List, [], _∷_, map}
@@ -10,15 +10,14 @@ use lib.ListN.{length}
 use mir.Syntax.{w64}
 use mir.Val.{toZ, ofZ}
 use borrow.Author.Tests.{ltb-false}
-use Rattle.lists.specs.Select.{total, range}
+use Rattle.lists.specs.Select.{range}
 use Rattle.lists.proofs.Tests.{by-test}
 use Rattle.patterns.specs.declared.Refusal.the-variants.{Count, Image, Room}
 use Rattle.patterns.specs.Table.{image, isTable, onCycle}
-use Rattle.patterns.specs.Census.{greatest, Row, rowsOf, stepsToCycle, height, longestCycle, cycleLengths, censusRows}
-use Rattle.patterns.specs.Replies.{Answer, length-is}
-use Rattle.patterns.specs.Entry.{checkedTable, answer, answered, censusOf, rowsFound, ColumnsReplied, heightOf, longestOf}
+use Rattle.patterns.specs.Census.{greatest, Row, rowsOf, stepsToCycle, height, censusRows}
+use Rattle.patterns.specs.Replies.{Answer}
+use Rattle.patterns.specs.Entry.{checkedTable, answered, censusOf, rowsFound, ColumnsReplied, heightOf}
 use Rattle.map_theory.proofs.Isomorphisms.{table-below}
-use Rattle.map_theory.proofs.CensusTheory.{lengths-add-up, cycle-points-bound}
 use Rattle.map_theory.proofs.Occurring.{census-fits}
 use Rattle.patterns.specs.SignedReplies.{signedOf, CensusReported}
 use Rattle.c_interface.proofs.Fitting.{Fits, read-back, refused-fits, small-fits}
@@ -38,34 +37,16 @@ module _ (n : ℕ) (f : ℕ → ℕ) where
   unfolding height
   height-few = distances-few (range 0 n)
 
-greatest-few : (l : List ℕ) → greatest l ≤ total (λ x. x) l
-greatest-few [] = omega arith
-greatest-few (x ∷ l) = by-test (leb (greatest l) x) (λ t. rw t (omega arith)) (λ t. rw t (omega (arith, greatest-few l)))
-
 module _ (f : List ℕ) where
-  longest-few : isTable f ≡ true → longestCycle (length f) (image f) ≤ length f
-  unfolding longestCycle
-  longest-few t =
-      let inside = table-below (length f) f refl t in
-      omega
-      (arith, greatest-few (cycleLengths (length f) (image f)), lengths-add-up (length f) (image f) inside, cycle-points-bound (length f) (image f) inside)
-
-  -- a number of a table that passes the checks
-  table-fits : (m : List ℕ → ℕ) → (isTable f ≡ true → m f ≤ length f) → Fits (answer (checkedTable f) (λ f. length-is (m f)))
+  pub height-fits : Fits (heightOf f)
   unfolding checkedTable
-  table-fits m h =
+  height-fits =
       by-test (ltb 200 (length f))
       (λ t. rw t (refused-fits Count))
       (λ t.
       by-test (isTable f)
-      (λ u. rw (t, u) (let k = ltb-false 200 (length f) t in small-fits (m f) (omega (arith, h u))))
+      (λ u. rw (t, u) (let k = ltb-false 200 (length f) t in small-fits (height (length f) (image f)) (omega (arith, height-few (length f) (image f)))))
       (λ u. rw (t, u) (refused-fits Image)))
-
-  pub height-fits : Fits (heightOf f)
-  height-fits = table-fits (λ f. height (length f) (image f)) (λ t. height-few (length f) (image f))
-
-  pub longest-fits : Fits (longestOf f)
-  longest-fits = table-fits (λ f. longestCycle (length f) (image f)) longest-few
 
   rows-few : isTable f ≡ true → length f ≤ 200 → length (censusRows (length f) (image f)) ≤ 19
   rows-few t h = census-fits (length f) (image f) (table-below (length f) f refl t) h

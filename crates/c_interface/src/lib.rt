@@ -12,12 +12,13 @@ use signed_replies::successor_number;
 use signed_replies::turns_number;
 ghost use denote.Ref.{now};
 ghost use mathlib.Core.Path.{_≡_};
-ghost use Rattle.patterns.specs.Entry.{answer, acceptOf, firstOf, successorOf, codeOfMap, mapOfCode, heightOf, longestOf};
+ghost use Rattle.patterns.specs.Entry.{answer, acceptOf, firstOf, successorOf, codeOfMap, mapOfCode, heightOf};
 ghost use Rattle.patterns.specs.Replies.{Answer.length-is};
 ghost use Rattle.patterns.specs.Page.{pageOf};
 ghost use Rattle.patterns.specs.Predecessor.{predecessorOf};
 ghost use Rattle.patterns.specs.Arithmetic.{sumOfCodes, productOfCodes};
 ghost use Rattle.patterns.specs.TableCount.{tableCount};
+ghost use Rattle.patterns.specs.Period.{periodOf};
 ghost use Rattle.patterns.specs.SignedReplies.{signedOf, Reported, PageReported, IsomorphismReported, CensusReported, componentStart, componentEnd, componentTurns};
 
 // n, or the refusal of a code.
@@ -124,12 +125,12 @@ pub extern "C" fn lethmuok_height(table: &[u8]) -> i64
     reply_number(engine::height(table))
 }
 
-// The length of the longest cycle of the map `table`.
+// The period of the map `table` [document 02, paper 8: round length].
 #[no_mangle]
-pub extern "C" fn lethmuok_longest_cycle(table: &[u8]) -> i64
-    ensures { λ r. ⌜ r ≡ signedOf (longestOf (now (table .entry))) ⌝ }
+pub extern "C" fn lethmuok_period(table: &[u8]) -> i64
+    ensures { λ r. ⌜ r ≡ signedOf (answer (periodOf (now (table .entry))) length-is) ⌝ }
 {
-    reply_number(engine::longest_cycle(table))
+    quantity_number(engine::period(table))
 }
 
 // Where the bytes of the component at `position`, counted from 0, begin in `code`.

@@ -26,6 +26,8 @@ pub const PRODUCT: usize = 10;
 
 pub const TABLE_COUNT: usize = 11;
 
+pub const PERIOD: usize = 12;
+
 // More room than any output takes.
 const WIDE: usize = 2000;
 
@@ -90,11 +92,14 @@ fn answer(entry: usize, count: usize, a: &[u8], b: &[u8], out: &mut [u8]) -> Ans
     if entry <= SUCCESSOR {
         return call_on_code(entry, count, a, out);
     }
-    if SUM <= entry {
-        return call_on_codes(entry, a, b, out);
-    }
     if entry == PREDECESSOR {
         return answers::of_predecessor(engine::predecessor(a, out));
+    }
+    if entry == PERIOD {
+        return answers::of_quantity(engine::period(a));
+    }
+    if SUM <= entry {
+        return call_on_codes(entry, a, b, out);
     }
     call_on_map(entry, a, b, out)
 }

@@ -1,5 +1,5 @@
--- The rows of a list that counts the cycles of a map by their length are the census of the map, at most 19 for at most 200 points, and the
--- greatest of their lengths is the longest cycle.
+-- The rows of a list that counts the cycles of a map by their length are the census of the map, at most 19 for at most 200 points, and their lengths are those that
+-- occur.
 use mathlib.Core.Path.{_≡_, ap, sym, _∙_}
 use mathlib.Core.List.{List, map}
 use mathlib.Core.Bool.{Bool, not}
@@ -13,9 +13,9 @@ use Rattle.lists.proofs.Tests.{_∈_}
 use Rattle.lists.proofs.Members.{of-range, of-keep}
 use Rattle.lists.proofs.Gathering.{map-same, keep-same}
 use Rattle.patterns.specs.Table.{image}
-use Rattle.patterns.specs.Census.{greatest, Row, rowsOf, cyclesOf, occurring, censusRows, longestCycle}
+use Rattle.patterns.specs.Census.{Row, rowsOf, cyclesOf, occurring, censusRows}
 use Rattle.map_theory.proofs.SideBySide.{rows-lengths, rows-given}
-use Rattle.map_theory.proofs.Occurring.{row-lengths, occurring-longest, occurring-few}
+use Rattle.map_theory.proofs.Occurring.{row-lengths, occurring-few}
 use Rattle.census.specs.Counts.{Counts}
 use Rattle.census.specs.declared.Rows.{Rows}
 use Rattle.census.specs.Rows.{counted, RowsRoom, Listed, RowsOf}
@@ -79,14 +79,12 @@ module _ (f tallies : List ℕ) (c : Counts f tallies) where
         let cs : take rows counts ≡ map tally (counted tallies) = listed-counts d in
         record { rows-are = rw (ls, cs) counted-rows; few = omega (arith, d .many, counted-few) }
 
--- The greatest length that has a row is the longest cycle.
-pub rows-longest : {f : List ℕ} (r : Rows) → length (r .lengths) ≡ 19 → length (r .counts) ≡ 19 → RowsOf f r
-    → greatest (take (r .rows) (r .lengths)) ≡ longestCycle (length f) (image f)
-rows-longest {f} r a b w =
+-- The lengths that have a row are those that occur.
+pub rows-occurring : {f : List ℕ} (r : Rows) → length (r .lengths) ≡ 19 → length (r .counts) ≡ 19 → RowsOf f r
+    → take (r .rows) (r .lengths) ≡ occurring (length f) (image f)
+rows-occurring {f} r a b w =
     let few = w .few in
     let e = length-take-le (r .rows) (r .lengths) (omega arith) ∙ sym (length-take-le (r .rows) (r .counts) (omega arith)) in
-    let lengths : take (r .rows) (r .lengths) ≡ occurring (length f) (image f) =
     sym (rows-lengths (take (r .rows) (r .lengths)) (take (r .rows) (r .counts)) e)
     ∙ ap (map (λ (r : Row). r .cycleLength)) (w .rows-are)
-    ∙ row-lengths (length f) (image f) in
-    ap greatest lengths ∙ occurring-longest (length f) (image f)
+    ∙ row-lengths (length f) (image f)

@@ -12,8 +12,8 @@ use lib.Seq.{getD-set-same, getD-set-other}
 use Rattle.lists.proofs.Tests.{_∈_, by-test, either, is-false}
 use Rattle.lists.proofs.Comparison.{compare-lawful}
 use Rattle.lists.proofs.Members.{lawful-decides, in-cons-cases, in-list, in-moved, in-or-not}
-use Rattle.patterns.specs.Table.{image, onCycle, cycleFrom, leadsCycle}
-use Rattle.map_theory.proofs.Orbits.{iterate, iterate-add, orbit-length, of-orbit, onCycle-moves, onCycle-back}
+use Rattle.patterns.specs.Table.{image, iterate, onCycle, cycleFrom, leadsCycle}
+use Rattle.map_theory.proofs.Orbits.{iterate-add, orbit-length, of-orbit, onCycle-moves, onCycle-back}
 use Rattle.map_theory.proofs.Leaders.{in-cycle, of-cycle, leads-onCycle, leads-least, least-leads}
 use Rattle.cycles.specs.Marks.{Marked}
 use Rattle.cycles.proofs.Marks.{inside, marks-on}

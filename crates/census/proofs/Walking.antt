@@ -9,8 +9,8 @@ use lib.Dec.{leb, ltb}
 use borrow.Author.Tests.{leb-true, leb-false, ltb-true, ltb-false}
 use lib.ListN.{length}
 use Rattle.lists.proofs.Tests.{by-test}
-use Rattle.patterns.specs.Table.{orbit, onCycle, cycleFrom}
-use Rattle.map_theory.proofs.Orbits.{iterate, iterate-suc, orbit-length}
+use Rattle.patterns.specs.Table.{iterate, orbit, onCycle, cycleFrom}
+use Rattle.map_theory.proofs.Orbits.{iterate-suc, orbit-length}
 use Rattle.map_theory.proofs.Leaders.{Period, cycle-period}
 
 -- y comes k steps after x, and x has not come back before

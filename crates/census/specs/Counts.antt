@@ -4,9 +4,8 @@ use mathlib.Core.Bool.{true}
 use mathlib.Core.List.{List}
 use Prim.Native.Nat.{ℕ, _≤_, _<_, _+_}
 use lib.ListN.{length, getD, replicate}
-use Rattle.patterns.specs.Table.{image, isTable, onCycle, cycleFrom}
+use Rattle.patterns.specs.Table.{image, iterate, isTable, onCycle, cycleFrom}
 use Rattle.patterns.specs.Census.{cyclesOf}
-use Rattle.map_theory.specs.Iteration.{iterate}
 use Rattle.cycles.specs.Marks.{Marked}
 
 -- x is a point of a table and on a cycle, and there is a mark for each point

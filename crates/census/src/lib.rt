@@ -1,14 +1,11 @@
-// The rows of the census of a map in running code [document 01, "Refusing", last but one paragraph]: which cycle lengths occur and how often. And the longest
-// cycle, which is read off them.
+// The rows of the census of a map in running code [document 01, "Refusing", last but one paragraph]: which cycle lengths occur and how often.
 use patterns::Row;
 use patterns::points_room;
 ghost use denote.Ref.{now};
 ghost use mathlib.Core.Path.{_≡_};
-ghost use mathlib.Core.List.{List, _++_, map};
-ghost use Prim.Native.Nat.{ℕ, _<_, _≤_};
+ghost use mathlib.Core.List.{_++_, map};
+ghost use Prim.Native.Nat.{_<_, _≤_};
 ghost use lib.ListN.{length, take, drop, replicate};
-ghost use Rattle.patterns.specs.Table.{image};
-ghost use Rattle.patterns.specs.Census.{longestCycle as longestOf, greatest as greatestOf};
 ghost use Rattle.tables.specs.Tables.{Table};
 ghost use Rattle.cycles.specs.Marks.{Marked};
 ghost use Rattle.census.specs.Counts.{ClearAsked, CycleCleared, Blank, Counts};
@@ -75,22 +72,6 @@ fn list_rows(tallies: &[u8], lengths: &mut [u8], counts: &mut [u8]) -> usize
     rows
 }
 
-// The greatest number of `s`, and 0 where it has none.
-fn greatest(s: &[u8]) -> usize
-    ensures { λ r. ⌜ r ≡ greatestOf (now (s .entry)) ⌝ }
-{
-    let mut most = 0;
-    let mut i = 0;
-    while i < s.len() {
-        let x = s[i] as usize;
-        if most <= x {
-            most = x;
-        }
-        i += 1;
-    }
-    most
-}
-
 fn no_cycles() -> [u8; 201]
     ensures { λ r. ⌜ r ≡ replicate 201 0 ⌝ }
 {
@@ -138,16 +119,6 @@ pub fn cycle_rows(f: &[u8]) -> Rows
     let mut marks = points_room();
     cycles::mark_cycles(f, &mut marks[..n]);
     marked_rows(f, &mut marks[..n])
-}
-
-// The longest cycle: the greatest length that has a row.
-pub fn longest(rows: Rows) -> usize
-    requires { ⌜ rows .rows ≤ 19 ⌝ }
-    ensures { λ r. ⌜ ((f : List ℕ) → RowsOf f rows → r ≡ longestOf (length f) (image f)) ⌝ }
-{
-    let lengths = rows.lengths;
-    let n = rows.rows;
-    greatest(&lengths[..n])
 }
 
 // Row `i` of a census.

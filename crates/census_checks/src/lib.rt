@@ -21,15 +21,14 @@ const REFUSED: usize = 3;
 // Places for rows: the greatest room of a case, and more.
 const PLACES: usize = 24;
 
-// An answer of the census: the kind, the number of rows or of the cause, the greatest distance, the longest cycle, and the rows in two columns. The filling stands
-// where no row is, and for the two numbers that a refusal does not tell.
+// An answer of the census: the kind, the number of rows or of the cause, the greatest distance, and the rows in two columns. The filling stands where no row is, and
+// for the distance, which a refusal does not tell.
 struct Columns {
     lengths: [u8; 24],
     counts: [u8; 24],
     kind: usize,
     value: usize,
     height: usize,
-    longest: usize,
 }
 
 // The case that begins at a place of a text: whether it is one of the census, whether it holds, and where the next one begins.
@@ -47,13 +46,12 @@ fn blank() -> [u8; 24]
 
 fn answered(reply: Census, lengths: [u8; 24], counts: [u8; 24]) -> Columns {
     match reply {
-        Census::Counted(rows, height, longest) => Columns {
+        Census::Counted(rows, height) => Columns {
             lengths,
             counts,
             kind: LENGTH,
             value: rows,
             height,
-            longest,
         },
         Census::Refused(cause) => Columns {
             lengths,
@@ -61,7 +59,6 @@ fn answered(reply: Census, lengths: [u8; 24], counts: [u8; 24]) -> Columns {
             kind: REFUSED,
             value: numbers::wide(patterns::number(cause)),
             height: numbers::wide(FILLING),
-            longest: numbers::wide(FILLING),
         },
     }
 }
@@ -106,14 +103,14 @@ fn in_list(table: &[u8], places: usize) -> Columns {
     set_out(census_of(table, fitting(places), FILLING))
 }
 
-// The answer that a case asks for: in its list height and longest cycle come first, then each row's length and number of cycles.
+// The answer that a case asks for: in its list the height comes first, then each row's length and number of cycles.
 fn expected(kind: usize, value: usize, output: List) -> Columns {
     let mut lengths = blank();
     let mut counts = blank();
     let mut i = 0;
     while i < PLACES {
-        lengths[i] = output.bytes[2 * i + 2];
-        counts[i] = output.bytes[2 * i + 3];
+        lengths[i] = output.bytes[2 * i + 1];
+        counts[i] = output.bytes[2 * i + 2];
         i += 1;
     }
     Columns {
@@ -122,7 +119,6 @@ fn expected(kind: usize, value: usize, output: List) -> Columns {
         kind,
         value,
         height: numbers::wide(output.bytes[0]),
-        longest: numbers::wide(output.bytes[1]),
     }
 }
 
@@ -147,9 +143,6 @@ fn agrees(found: Columns, wanted: Columns) -> bool {
         return false;
     }
     if found.height != wanted.height {
-        return false;
-    }
-    if found.longest != wanted.longest {
         return false;
     }
     has_rows(found, wanted)

@@ -12,7 +12,7 @@ use Rattle.lists.proofs.Tests.{by-test, clash}
 use Rattle.patterns.specs.declared.Refusal.{Refusal}
 use Rattle.patterns.specs.declared.Refusal.the-variants.{Room}
 use Rattle.patterns.specs.Table.{image}
-use Rattle.patterns.specs.Census.{Row, height, longestCycle}
+use Rattle.patterns.specs.Census.{Row, height}
 use Rattle.patterns.specs.Reading.{Result, done, fault}
 use Rattle.patterns.specs.Entry.{gives, outcome, answered, filled, checkedTable, censusOf, rowsFound, censusAnswered, CensusReplied}
 use Rattle.patterns.specs.declared.reply.Reply.the-variants.{Length, Refused}
@@ -86,7 +86,7 @@ module _ (f : List ℕ) (e : checkedTable f ≡ done f) (rows : Rows) (w : RowsO
               output = λ before l. rw (census-done f e w) (rw (test before l) (ap (λ j. rowsIn rows ++ drop j before) (sym rows-many)));
             };
         reply = λ before l. rw (census-done f e w) (rw (test before l) (ap length-is (sym rows-many)));
-        counted = λ n q. (checked-table f e, w);
+        counted = λ n q. checked-table f e;
       }
 
 -- the whole answer beside the number of rows, or the same refusal
@@ -99,13 +99,13 @@ module _ (f : List ℕ) (before : List Row) where
   refusal-answered (fault c) {cause} e = let z : cause ≡ numberOf c = cc in ap census-refused z
 
   number-answered : (o : Result (List Row)) {n : ℕ} → length-is n ≡ answered (outcome o gives) before
-      → census-is n (height (length f) (image f)) (longestCycle (length f) (image f)) ≡ censusAnswered f o before
+      → census-is n (height (length f) (image f)) ≡ censusAnswered f o before
   number-answered (done rows) {n} e =
       by-test (leb (length rows) (length before))
       (λ t.
       let k : length-is n ≡ length-is (length rows) = e ∙ rw t in
       let z : n ≡ length rows = cc in
-      rw t (ap (λ m. census-is m (height (length f) (image f)) (longestCycle (length f) (image f))) z))
+      rw t (ap (λ m. census-is m (height (length f) (image f))) z))
       (λ t. let k : length-is n ≡ refused (numberOf Room) = e ∙ rw t in clash cc)
   number-answered (fault c) e = clash cc
 
@@ -115,12 +115,12 @@ module _ {f : List ℕ} {places : ℕ} {c : Choice} (k : Chosen f places c) wher
   decided-refused e =
       record { rows-decided = k .rows-decided; reply = λ before l. refusal-answered f before (censusOf f) (ap answerOf (sym e) ∙ k .reply before l) }
 
-  pub decided-counted : {n h l : ℕ} → c .reply ≡ Length n → h ≡ height (length f) (image f) → l ≡ longestCycle (length f) (image f)
-      → Decided f places (record { rows = c .rows; filled = c .filled; reply = Counted n h l })
-  decided-counted e p q =
+  pub decided-counted : {n h : ℕ} → c .reply ≡ Length n → h ≡ height (length f) (image f)
+      → Decided f places (record { rows = c .rows; filled = c .filled; reply = Counted n h })
+  decided-counted e p =
       record {
         rows-decided = k .rows-decided;
-        reply = λ before l. rw (p, q) (number-answered f before (censusOf f) (ap answerOf (sym e) ∙ k .reply before l));
+        reply = λ before l. rw p (number-answered f before (censusOf f) (ap answerOf (sym e) ∙ k .reply before l));
       }
 
 -- what was decided is written into a list of structs

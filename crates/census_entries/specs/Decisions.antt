@@ -30,11 +30,11 @@ pub record Refuses (cause : Refusal) (c : Choice) : Type 0 where
   pub nothing : c .filled ≡ 0
   pub reply : c .reply ≡ Refused cause
 
--- c writes what the census of f asks for, and answers the number of rows or the refusal; where it answers a number it holds the rows of a table
+-- c writes what the census of f asks for, and answers the number of rows or the refusal; where it answers a number f is a table
 pub record Chosen (f : List ℕ) (places : ℕ) (c : Choice) : Type 0 where
   pub rows-decided : RowsDecided f places (c .rows) (c .filled)
   pub reply : (before : List Row) → length before ≡ places → answerOf (c .reply) ≡ answered (rowsFound f) before
-  pub counted : (n : ℕ) → c .reply ≡ Length n → Table f × RowsOf f (c .rows)
+  pub counted : (n : ℕ) → c .reply ≡ Length n → Table f
 
 -- the same, for any table with these rows
 abbrev pub RowsChosen : Rows → ℕ → Choice → Type 0

@@ -2,7 +2,6 @@
 use census::Rows;
 use census::cycle_rows;
 use census::fill;
-use census::longest;
 use distances::height as height_of;
 use patterns::Census;
 use patterns::Refusal;
@@ -14,7 +13,7 @@ ghost use mathlib.Core.Path.{_≡_};
 ghost use mathlib.Core.List.{map};
 ghost use Prim.Native.Nat.{_≤_, min};
 ghost use lib.ListN.{length};
-ghost use Rattle.patterns.specs.Entry.{CensusReplied, RowsReplied, ColumnsReplied, heightOf, longestOf};
+ghost use Rattle.patterns.specs.Entry.{CensusReplied, RowsReplied, ColumnsReplied, heightOf};
 ghost use Rattle.patterns.specs.Replies.{answerOf, censusAnswer, rowOf};
 ghost use Rattle.census_entries.specs.Columns.{ColumnsPut};
 ghost use Rattle.census_entries.specs.Decisions.{Refuses, RowsChosen, Chosen, Decided};
@@ -93,8 +92,7 @@ fn decide(table: &[u8], places: usize) -> Decision
         }
         Reply::Length(n) => {
             let height = height_of(table);
-            let longest = longest(rows);
-            let reply = Census::Counted(n, height, longest);
+            let reply = Census::Counted(n, height);
             Decision {
                 rows,
                 filled,
@@ -163,15 +161,5 @@ pub fn height(table: &[u8]) -> Reply
     match check_table(table) {
         Reply::Refused(cause) => Reply::Refused(cause),
         Reply::Length(_) => Reply::Length(height_of(table)),
-    }
-}
-
-// The longest cycle of the map `table`.
-pub fn longest_cycle(table: &[u8]) -> Reply
-    ensures { λ r. ⌜ answerOf r ≡ longestOf (now (table .entry)) ⌝ }
-{
-    match check_table(table) {
-        Reply::Refused(cause) => Reply::Refused(cause),
-        Reply::Length(_) => Reply::Length(longest(cycle_rows(table))),
     }
 }

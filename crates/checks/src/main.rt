@@ -42,6 +42,7 @@ fn main() {
     run_answers();
     run_sums();
     run_file(b"table_counts", b"numbers of tables");
+    run_file(b"periods", b"periods");
     page_checks::run(b"pages", b"pages of codes");
     page_checks::run(b"pages_long", b"long pages");
     reader_checks::run(b"components");

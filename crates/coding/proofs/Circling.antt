@@ -6,9 +6,8 @@ use native.Mathlib.Omega.{arith}
 use lib.ListN.{length}
 use Rattle.patterns.specs.Tree.{size}
 use Rattle.patterns.specs.Component.{points}
-use Rattle.patterns.specs.Table.{image, orbit, cycleFrom}
+use Rattle.patterns.specs.Table.{image, iterate, orbit, cycleFrom}
 use Rattle.patterns.proofs.Trees.{size-positive}
-use Rattle.map_theory.specs.Iteration.{iterate}
 use Rattle.map_theory.specs.Plants.{shape, plantAt, plantsAlong}
 use Rattle.arrangement.specs.Arrangement.{Planted}
 use Rattle.coding.specs.Writing.{TreeAsked, CycleAsked}

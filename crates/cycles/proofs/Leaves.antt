@@ -11,8 +11,7 @@ use lib.ListN.{length, getD, set, length-set}
 use lib.Seq.{getD-set-same, getD-set-other}
 use borrow.Author.Tests.{eq-eqb, ne-eqb, eqb-true, eqb-false}
 use Rattle.lists.proofs.Tests.{by-test, no-both, is-false, true-and}
-use Rattle.patterns.specs.Table.{image, isTable, onCycle}
-use Rattle.map_theory.specs.Iteration.{iterate}
+use Rattle.patterns.specs.Table.{image, iterate, isTable, onCycle}
 use Rattle.map_theory.proofs.Orbits.{iterate-suc, iterate-inside, onCycle-period, onCycle-moves}
 use Rattle.cycles.specs.Queue.{among, Queue}
 use Rattle.cycles.specs.Pruning.{inDegree, InDegrees}

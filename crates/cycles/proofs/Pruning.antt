@@ -8,8 +8,7 @@ use lib.Dec.{eqb}
 use lib.ListN.{length, getD}
 use borrow.Author.Tests.{eq-eqb, eqb-true}
 use Rattle.lists.proofs.Tests.{by-test, no-both, not-of-false, and-true}
-use Rattle.patterns.specs.Table.{image, isTable, onCycle}
-use Rattle.map_theory.specs.Iteration.{iterate}
+use Rattle.patterns.specs.Table.{image, iterate, isTable, onCycle}
 use Rattle.map_theory.proofs.Orbits.{iterate-add, onCycle-moves, every-point-reaches-cycle}
 use Rattle.cycles.specs.Marks.{Marked}
 use Rattle.cycles.specs.Queue.{among}

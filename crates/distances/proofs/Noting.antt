@@ -11,7 +11,7 @@ use Rattle.lists.proofs.Tests.{by-test}
 use Rattle.patterns.specs.Table.{image, onCycle}
 use Rattle.patterns.specs.Census.{height}
 use Rattle.tables.specs.Tables.{Table}
-use Rattle.map_theory.proofs.Maxima.{heightTo, heightTo-start, heightTo-taken, heightTo-passed, heightTo-all}
+use Rattle.map_theory.proofs.Heights.{heightTo, heightTo-start, heightTo-taken, heightTo-passed, heightTo-all}
 use Rattle.map_theory.proofs.Distances.{steps-on, distance-bound, distance-next}
 use Rattle.cycles.specs.Marks.{Marked}
 use Rattle.cycles.proofs.Marks.{inside, marks-on, marks-off}

@@ -35,17 +35,17 @@ rows-found f {rows} e =
     (rw (t, u), sym z))
     (λ u. let k : fails Image ≡ gives rows = sym (rw (t, u)) ∙ e in clash cc))
 
--- the number of rows beside the other two numbers of a census
-number-of-rows : (f : List ℕ) (before : List Row) {k h l : ℕ} (o : Result (List Row)) → census-is k h l ≡ censusAnswered f o before
+-- the number of rows beside the other number of a census
+number-of-rows : (f : List ℕ) (before : List Row) {k h : ℕ} (o : Result (List Row)) → census-is k h ≡ censusAnswered f o before
     → length-is k ≡ answered (outcome o gives) before
-number-of-rows f before {k} {h} {l} (done rows) e =
+number-of-rows f before {k} {h} (done rows) e =
     by-test (leb (length rows) (length before))
     (λ t. let q = rw t at e in let z : k ≡ length rows = cc in rw t (ap length-is z))
-    (λ t. let q : census-is k h l ≡ census-refused 8 = e ∙ rw t in clash cc)
+    (λ t. let q : census-is k h ≡ census-refused 8 = e ∙ rw t in clash cc)
 number-of-rows f before (fault c) e = clash cc
 
 -- What "census" writes into a list of rows.
-module _ {f : List ℕ} {before after : List Row} {k h l : ℕ} (p : CensusReplied f before (census-is k h l) after) where
+module _ {f : List ℕ} {before after : List Row} {k h : ℕ} (p : CensusReplied f before (census-is k h) after) where
   census-found : (checkedTable f ≡ done f) × (take k after ≡ censusRows (length f) (image f)) × (k ≡ length (censusRows (length f) (image f)))
   census-found =
       let r = result-written (rowsFound f) {before = before} {after = after} (record { reply = number-of-rows f before (censusOf f) (p .reply); output = p .output }) in
@@ -85,8 +85,8 @@ module _ {f lengths counts lengths′ counts′ : List ℕ} {k : ℕ} (p : Colum
   )
 
 -- Two maps with the same code: their censuses, laid side by side, have the same rows.
-pub same-code-same-census : {f g : List ℕ} {before after before′ after′ : List Row} {k h l k′ h′ l′ : ℕ} → codeOfMap f ≡ codeOfMap g
-    → CensusReplied f before (census-is k h l) after → CensusReplied g before′ (census-is k′ h′ l′) after′ → (k ≡ k′) × (take k after ≡ take k′ after′)
+pub same-code-same-census : {f g : List ℕ} {before after before′ after′ : List Row} {k h k′ h′ : ℕ} → codeOfMap f ≡ codeOfMap g
+    → CensusReplied f before (census-is k h) after → CensusReplied g before′ (census-is k′ h′) after′ → (k ≡ k′) × (take k after ≡ take k′ after′)
 unfolding systemOfTable
 same-code-same-census {f} {g} e p q =
     let a = census-found p in

@@ -7,5 +7,6 @@ pub mod PredecessorTheorems
 pub mod WrittenCodes
 pub mod ArithmeticTheorems
 pub mod TableCountTheorems
+pub mod PeriodTheorems
 pub mod Demand3
 pub mod Promises

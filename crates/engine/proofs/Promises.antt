@@ -15,11 +15,12 @@ use Rattle.patterns.specs.Page.{pageOf, PageReplied}
 use Rattle.patterns.specs.Predecessor.{predecessorOf}
 use Rattle.patterns.specs.Arithmetic.{sumOfCodes, productOfCodes}
 use Rattle.patterns.specs.TableCount.{tableCount}
+use Rattle.patterns.specs.Period.{periodOf}
 use Rattle.patterns.specs.Entry.{Replied, answer, acceptOf, firstOf, successorOf, codeOfMap, mapOfCode, IsomorphismReplied, CensusReplied}
 use Rattle.patterns.specs.Replies.{length-is, answerOf, quantityAnswer}
 use Rattle.patterns.specs.Replies.{successorAnswer, predecessorAnswer, pageAnswer, isomorphismAnswer, censusAnswer}
 use Rattle.patterns.specs.Replies.{rowOf}
-use Rattle.patterns.specs.Entry.{RowsReplied, ColumnsReplied, heightOf, longestOf}
+use Rattle.patterns.specs.Entry.{RowsReplied, ColumnsReplied, heightOf}
 use Rattle.code_entries.proofs.accept.Reads as accept
 use Rattle.code_entries.proofs.accept.Kinds as accept-kinds
 use Rattle.code_entries.proofs.first.Reads as first
@@ -49,8 +50,8 @@ use Rattle.census_entries.proofs.cycle_columns.Reads as cycle-columns
 use Rattle.census_entries.proofs.cycle_columns.Kinds as cycle-columns-kinds
 use Rattle.census_entries.proofs.height.Reads as height
 use Rattle.census_entries.proofs.height.Kinds as height-kinds
-use Rattle.census_entries.proofs.longest_cycle.Reads as longest-cycle
-use Rattle.census_entries.proofs.longest_cycle.Kinds as longest-cycle-kinds
+use Rattle.period_entry.proofs.period.Reads as period
+use Rattle.period_entry.proofs.period.Kinds as period-kinds
 
 -- `accept`: the reply
 pub accept-promise : (κs : Lfts 1) (a : Dens κs accept-kinds.ps) (r : _) (s : _) → accept.Post κs a r s → answerOf r ≡ acceptOf (now (a .0))
@@ -124,9 +125,10 @@ pub cycle-columns-promise : (κs : Lfts 3) (a : Dens κs cycle-columns-kinds.ps)
     → ColumnsReplied (now (a .0)) (now (a .1 .0)) (now (a .1 .1 .0)) (answerOf r) (now (s .1 .0)) (now (s .1 .1 .0))
 cycle-columns-promise κs a r s p = p
 
--- `height` and `longest_cycle`: the other two numbers alone
+-- `height`: the other number alone
 pub height-promise : (κs : Lfts 1) (a : Dens κs height-kinds.ps) (r : _) (s : _) → height.Post κs a r s → answerOf r ≡ heightOf (now (a .0))
 height-promise κs a r s p = p
 
-pub longest-cycle-promise : (κs : Lfts 1) (a : Dens κs longest-cycle-kinds.ps) (r : _) (s : _) → longest-cycle.Post κs a r s → answerOf r ≡ longestOf (now (a .0))
-longest-cycle-promise κs a r s p = p
+-- `period`: the reply
+pub period-promise : (κs : Lfts 1) (a : Dens κs period-kinds.ps) (r : _) (s : _) → period.Post κs a r s → quantityAnswer r ≡ answer (periodOf (now (a .0))) length-is
+period-promise κs a r s p = p

@@ -31,7 +31,7 @@ use Rattle.counting_theory.specs.Symmetries.{factorial}
 use Rattle.counting_theory.proofs.Exactly.{Exactly, exactly-same}
 use Rattle.counting_theory.proofs.CountedTables.{exactly-tables, tables-of-codes, tables-symmetries}
 use Rattle.counting_theory.proofs.Automorphisms.{automorphisms-counted}
-use Rattle.engine.proofs.WrittenCodes.{Wrote, wrote-gives, map-given}
+use Rattle.engine.proofs.WrittenCodes.{Wrote, wrote-gives, map-given, given-system}
 
 -- the entry's reply to the bytes b
 abbrev pub CountAnswer : List ℕ → Answer
@@ -142,7 +142,5 @@ number-times-symmetries f b {k} w p =
     let c = table-canonical (length f) f refl (t .0 .table) in
     let points = table-weight (length f) f refl (t .0 .table) in
     let r = number-told b p in
-    let back : accepted b ≡ done S = ap accepted (t .1) ∙ written-back S c (omega (arith, points, t .0 .small)) in
-    let z : done (r .system) ≡ done S = sym (r .is) ∙ back in
-    let same : r .system ≡ S = cc in
+    let same : r .system ≡ S = given-system f b (r .system) (wrote-gives (codeOfMap f) w) (r .is) in
     rw (r .count, same, points, automorphisms-counted f (t .0 .table)) (tables-symmetries (length f) S c points)

@@ -1,6 +1,6 @@
 // Compares the answer of an entry, what it wrote and what it left as it was with a case: the examples, damaged codes, codes out of order, hostile inputs, codes at
-// each keystroke, rooms, successors, codes of maps and maps of codes, sums and products, numbers of tables [tools/README.md]. The cases of the census are passed over:
-// crate `census_checks` has them.
+// each keystroke, rooms, successors, codes of maps and maps of codes, sums and products, numbers of tables, periods [tools/README.md]. The cases of the census are
+// passed over: crate `census_checks` has them.
 use case_calls::calls;
 use case_calls::calls::Written;
 use case_text::lists;

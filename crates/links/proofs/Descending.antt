@@ -10,9 +10,9 @@ use lib.ListN.{length, take, getD, set, replicate, length-set, length-append, le
 use lib.Seq.{getD-set-same, getD-set-other, take-at}
 use Rattle.lists.proofs.Tests.{by-test, either, is-false, no-both}
 use Rattle.lists.proofs.Members.{in-cons-cases, in-list, in-moved}
-use Rattle.patterns.specs.Table.{image, onCycle, leadsCycle}
+use Rattle.patterns.specs.Table.{image, iterate, onCycle, leadsCycle}
 use Rattle.links.specs.Leads.{Descends, Lesser, Leads}
-use Rattle.map_theory.proofs.Orbits.{iterate, iterate-add, of-orbit, onCycle-moves, onCycle-back, iterate-inside}
+use Rattle.map_theory.proofs.Orbits.{iterate-add, of-orbit, onCycle-moves, onCycle-back, iterate-inside}
 use Rattle.map_theory.proofs.Leaders.{cycle-period, in-cycle, leads-onCycle, leads-least, least-leads}
 
 module _ (n : ℕ) (f : ℕ → ℕ) where

@@ -5,8 +5,7 @@ use mathlib.Core.List.{List}
 use Prim.Native.Nat.{ℕ, _+_, _≤_, _<_}
 use lib.Dec.{eqb}
 use lib.ListN.{length, getD}
-use Rattle.patterns.specs.Table.{image, isTable, onCycle, leadsCycle}
-use Rattle.map_theory.specs.Iteration.{iterate}
+use Rattle.patterns.specs.Table.{image, iterate, isTable, onCycle, leadsCycle}
 use Rattle.cycles.specs.Marks.{Marked}
 
 -- y is the first point after x that is not greater than x

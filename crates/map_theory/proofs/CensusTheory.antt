@@ -1,5 +1,5 @@
 -- The cycles of a map f on the points below n, as the census counts them: every point on a cycle belongs to exactly one of the counted cycles, the cycle lengths
--- add up to the points on cycles, and the greatest distance and the longest cycle are those of the map.
+-- add up to the points on cycles, and the greatest distance is that of the map.
 use mathlib.Core.Path.{_≡_, refl, ap, sym, _∙_}
 use mathlib.Core.List.{List, [], _∷_, map}
 use mathlib.Core.Bool.{Bool, true, cond, _&&_}
@@ -17,8 +17,7 @@ use Rattle.lists.proofs.Members.{NoDup, in-head, in-tail, in-cons-cases, not-in
 use Rattle.lists.proofs.Places.{times-in, in-of-times, times-nodup}
 use Rattle.lists.proofs.Pigeon.{inside-rest, nodup-below-length}
 use Rattle.patterns.specs.Table.{onCycle, cycleFrom, leaders}
-use Rattle.patterns.specs.Census.{greatest, cycleLengths, cyclesOf, stepsToCycle, height, longestCycle}
-use Rattle.map_theory.proofs.Orbits.{every-point-reaches-cycle, iterate, iterate-inside}
+use Rattle.patterns.specs.Census.{greatest, cycleLengths, cyclesOf, stepsToCycle, height}
 use Rattle.map_theory.proofs.Leaders.{cycle-nodup, cycle-perm, one-leader, of-leaders, leader-onCycle, has-leader, cycles-perm}
 
 -- no number of a list exceeds the greatest
@@ -129,21 +128,6 @@ module _ (n : ℕ) (f : ℕ → ℕ) where
         (greatest-member (map (stepsToCycle n f n) (range 0 n)) (in-map (stepsToCycle n f n) (in-range 0 n {x = 0} (omega arith) (omega arith)))) in
         let s = of-range 0 n (r .1) in
         (r .0, omega arith, sym (r .2))
-
-    -- the longest cycle is the longest through any point
-    pub longest-bound : (x : ℕ) → x < n → onCycle n f x ≡ true → length (cycleFrom n f x) ≤ longestCycle n f
-    unfolding longestCycle
-    longest-bound x h e =
-        let r = has-leader n f inside x h e in
-        omega (arith, greatest-bound (in-cycleLengths (r .1)), cycle-length-same (r .0) (leader-onCycle n f inside (r .1)) (r .2))
-
-    pub longest-reached : 0 < n → (x : ℕ) × (x < n) × (onCycle n f x ≡ true) × (length (cycleFrom n f x) ≡ longestCycle n f)
-    unfolding longestCycle
-    longest-reached h =
-        let d = every-point-reaches-cycle n f inside 0 h in
-        let r = has-leader n f inside (iterate f (d .0) 0) (iterate-inside n f inside (d .0) 0 h) (d .2) in
-        let s = of-cycleLengths (greatest-member (cycleLengths n f) (in-cycleLengths (r .1))) in
-        (s .0, (of-leaders n f inside (s .1)) .0, leader-onCycle n f inside (s .1), sym (s .2))
 
     -- l times the number of cycles of length l is the number of points on cycles of length l
     pub cyclesOf-points : (l : ℕ) → l * cyclesOf n f l ≡ length (keep (λ x. onCycle n f x && eqb l (length (cycleFrom n f x))) (range 0 n))

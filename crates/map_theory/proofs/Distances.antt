@@ -6,9 +6,9 @@ use native.Mathlib.Omega.{arith}
 use lib.Dec.{leb}
 use borrow.Author.Tests.{leb-true, leb-false}
 use Rattle.lists.proofs.Tests.{by-test, no-both}
-use Rattle.patterns.specs.Table.{onCycle}
+use Rattle.patterns.specs.Table.{iterate, onCycle}
 use Rattle.patterns.specs.Census.{stepsToCycle}
-use Rattle.map_theory.proofs.Orbits.{iterate, every-point-reaches-cycle}
+use Rattle.map_theory.proofs.Orbits.{every-point-reaches-cycle}
 
 -- a point of a cycle comes d steps after x, and no earlier
 pub record Distance (n : ℕ) (f : ℕ → ℕ) (x d : ℕ) : Type 0 where

@@ -13,10 +13,10 @@ use Rattle.lists.proofs.Permute.{Perm}
 use Rattle.lists.proofs.Members.{NoDup, in-head, in-cons-cases, in-list, in-moved, in-keep, of-keep, in-range, of-range, in-gather, of-gather, nodup-keep, nodup-range, nodup-gather}
 use Rattle.lists.proofs.Pigeon.{same-members-perm}
 use Rattle.patterns.specs.Component.{turn}
-use Rattle.patterns.specs.Table.{orbit, onCycle, until, cycleFrom, leadsCycle, leaders}
+use Rattle.patterns.specs.Table.{iterate, orbit, onCycle, until, cycleFrom, leadsCycle, leaders}
 use Rattle.lists.proofs.Gathering.{least-member}
 use Rattle.map_theory.proofs.Cycles.{cycle-image}
-use Rattle.map_theory.proofs.Orbits.{iterate, iterate-suc, iterate-add, period-moves, in-orbit, of-orbit, orbit-turn, orbit-repeats, onCycle-period, onCycle-moves, onCycle-back, iterate-inside}
+use Rattle.map_theory.proofs.Orbits.{iterate-suc, iterate-add, period-moves, in-orbit, of-orbit, orbit-turn, orbit-repeats, onCycle-period, onCycle-moves, onCycle-back, iterate-inside}
 
 -- if some number passes a test, there is a least one that does
 pub least-true : (t : ℕ → Bool) (p : ℕ) → t p ≡ true → (q : ℕ) × (q ≤ p) × (t q ≡ true) × ((i : ℕ) → i < q → t i ≡ false)

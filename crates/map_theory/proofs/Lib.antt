@@ -13,7 +13,7 @@ pub mod Labelled
 pub mod Orbits
 pub mod Leaders
 pub mod Distances
-pub mod Maxima
+pub mod Heights
 pub mod Levels
 pub mod PlantAt
 pub mod SortedCanonical

@@ -1,5 +1,5 @@
 -- The cycle lengths that occur and the rows of the census: they rise; they are a census, and the only one whose lengths rise; at most 19 lengths occur among 200
--- points; the greatest is the longest cycle; and the rows can be read off the code, in which a cycle is a component and its length the number of trees.
+-- points; and the rows can be read off the code, in which a cycle is a component and its length the number of trees.
 use mathlib.Core.Path.{_≡_, refl, ap, ap₂, sym, _∙_}
 use mathlib.Core.List.{List, [], _∷_, map, map-map, map-id, head-eq-of-cons-eq, tail-eq-of-cons-eq}
 use mathlib.Core.Bool.{Bool, not}
@@ -8,7 +8,7 @@ use native.Mathlib.Omega.{arith}
 use lib.Dec.{eqb}
 use borrow.Author.Tests.{eqb-true, eqb-false, ne-eqb}
 use lib.ListN.{length, length-map}
-use Rattle.lists.specs.Select.{range, times}
+use Rattle.lists.specs.Select.{total, range, times}
 use Rattle.lists.proofs.Tests.{_∈_, by-test, not-of-true}
 use Rattle.lists.proofs.Comparison.{compare-lawful, lt-not-eq}
 use Rattle.lists.proofs.Permute.{Perm, perm-path, perm-trans, perm-length, perm-map}
@@ -20,12 +20,12 @@ use Rattle.lists.proofs.Sorting.{sort-perm}
 use Rattle.lists.proofs.Gathering.{map-same, keep-same, perm-times}
 use Rattle.patterns.specs.System.{compareGenerated}
 use Rattle.patterns.specs.Table.{cycleFrom, treeAt, componentAt, leadsCycle, leaders, systemOf}
-use Rattle.patterns.specs.Census.{greatest, Row, cycleLengths, cyclesOf, longestCycle, occurring, censusRows}
+use Rattle.patterns.specs.Census.{Row, cycleLengths, cyclesOf, occurring, censusRows}
 use Rattle.patterns.proofs.Rotations.{rotated-perm, leastRotation-rotated}
 use Rattle.map_theory.specs.UnorderedCensus.{IsCensus}
 use Rattle.map_theory.proofs.Orbits.{orbit-length}
 use Rattle.map_theory.proofs.Leaders.{cycle-period, leads-onCycle}
-use Rattle.map_theory.proofs.CensusTheory.{greatest-bound, greatest-in, different-sum, of-cycleLengths, cycleLengths-positive, occurs, occurs-not, lengths-add-up, cycle-points-bound}
+use Rattle.map_theory.proofs.CensusTheory.{different-sum, of-cycleLengths, cycleLengths-positive, occurs, occurs-not, lengths-add-up, cycle-points-bound}
 
 -- the lengths of rows
 abbrev lengthsOf : List Row → List ℕ
@@ -37,14 +37,6 @@ rows-read : (g : ℕ → ℕ) (rows : List Row) → map (λ r. r .cycles) rows �
 rows-read g [] e = refl
 rows-read g (r ∷ rows) e =
     ap₂ _∷_ (ap (λ k. record { cycleLength = r .cycleLength; cycles = k }) (head-eq-of-cons-eq e)) (rows-read g rows (tail-eq-of-cons-eq e))
-
--- the greatest number depends on the members alone
-greatest-inside : (l m : List ℕ) → ((x : ℕ) → x ∈ l → x ∈ m) → greatest l ≤ greatest m
-greatest-inside [] m h = omega arith
-greatest-inside (x ∷ l) m h = greatest-bound (h (greatest (x ∷ l)) (greatest-in x l))
-
-greatest-same : (l m : List ℕ) → ((x : ℕ) → x ∈ l → x ∈ m) → ((x : ℕ) → x ∈ m → x ∈ l) → greatest l ≡ greatest m
-greatest-same l m h k = let a = greatest-inside l m h in let b = greatest-inside m l k in omega arith
 
 module _ (n : ℕ) (f : ℕ → ℕ) where
   abbrev occurs-at : ℕ → Bool
@@ -89,11 +81,6 @@ module _ (n : ℕ) (f : ℕ → ℕ) where
       let b : l ≤ n = omega (arith, r .2, ap length (s .3), orbit-length f (s .0) (r .0), s .1) in
       in-keep occurs-at (in-range 1 n (omega arith) (omega arith)) (rw (ne-eqb (cyclesOf n f l) 0 (λ e. occurs-not n f l e m)))
 
-  -- the greatest length is the longest cycle
-  pub occurring-longest : greatest (occurring n f) ≡ longestCycle n f
-  unfolding longestCycle
-  occurring-longest = greatest-same (occurring n f) (cycleLengths n f) of-occurring in-occurring
-
   -- the rows are a census
   pub rows-are-census : IsCensus n f (censusRows n f)
   unfolding censusRows
@@ -122,12 +109,18 @@ module _ (n : ℕ) (f : ℕ → ℕ) where
           let e : times l (lengthsOf rows) ≡ 1 = rw t at (c .once l) in
           in-of-times l (lengthsOf rows) (omega arith)
 
+  pub occurring-positive : (l : ℕ) → l ∈ occurring n f → 0 < l
+  occurring-positive l m = cycleLengths-positive n f l (of-occurring l m)
+
+  -- together they are not more than the points
+  pub occurring-total : ((x : ℕ) → x < n → f x < n) → total (λ l. l) (occurring n f) ≤ n
+  occurring-total inside =
+      let r = inside-rest occurring-nodup of-occurring in
+      omega (arith, r .1 (λ l. l), lengths-add-up n f inside, cycle-points-bound n f inside)
+
   -- at most 19 lengths occur among at most 200 points
   pub occurring-few : ((x : ℕ) → x < n → f x < n) → n ≤ 200 → length (occurring n f) ≤ 19
-  occurring-few inside h =
-      let r = inside-rest occurring-nodup of-occurring in
-      let s = different-sum (occurring n f) occurring-nodup (λ l m. cycleLengths-positive n f l (of-occurring l m)) in
-      omega (arith, r .1 (λ l. l), lengths-add-up n f inside, cycle-points-bound n f inside)
+  occurring-few inside h = omega (arith, different-sum (occurring n f) occurring-nodup occurring-positive, occurring-total inside)
 
   pub census-fits : ((x : ℕ) → x < n → f x < n) → n ≤ 200 → length (censusRows n f) ≤ 19
   unfolding censusRows

@@ -12,8 +12,7 @@ use Rattle.lists.proofs.Tests.{_∈_, either, some-member, some-true}
 use Rattle.lists.proofs.Comparison.{compare-lawful}
 use Rattle.lists.proofs.Members.{NoDup, one, lawful-decides, nodup-single, in-head, in-tail, in-cons-cases, in-or-not, not-in-nil}
 use Rattle.lists.proofs.Pigeon.{nodup-below-length}
-use Rattle.patterns.specs.Table.{orbit, onCycle}
-pub use Rattle.map_theory.specs.Iteration.{iterate}
+use Rattle.patterns.specs.Table.{iterate, orbit, onCycle}
 
 module _ (f : ℕ → ℕ) where
   pub iterate-suc : (k x : ℕ) → iterate f (suc k) x ≡ f (iterate f k x)

@@ -1,4 +1,3 @@
 -- What the theory of maps speaks of beyond the definitions of mapping patterns.
-pub mod Iteration
 pub mod Plants
 pub mod UnorderedCensus

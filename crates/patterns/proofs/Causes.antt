@@ -2,7 +2,7 @@
 use Prim.Native.Nat.{_<_}
 use native.Mathlib.Omega.{arith}
 use Rattle.patterns.specs.declared.Refusal.{Refusal}
-use Rattle.patterns.specs.declared.Refusal.the-variants.{Count, Image, Truncated, NumberForm, Sizes, NotCanonical, Trailing, Room, Position, Wanted, TooLarge, Uncounted}
+use Rattle.patterns.specs.declared.Refusal.the-variants.{Count, Image, Truncated, NumberForm, Sizes, NotCanonical, Trailing, Room, Position, Wanted, TooLarge, Uncounted, TooManyPoints}
 use Rattle.patterns.specs.Replies.{numberOf}
 
 pub cause-number : (c : Refusal) → (0 < numberOf c) × (numberOf c < 100)
@@ -18,3 +18,4 @@ cause-number Position = (omega arith, omega arith)
 cause-number Wanted = (omega arith, omega arith)
 cause-number TooLarge = (omega arith, omega arith)
 cause-number Uncounted = (omega arith, omega arith)
+cause-number TooManyPoints = (omega arith, omega arith)

@@ -1,5 +1,5 @@
--- Entry "census of a map", computed: number of rows, distance and longest cycle all differ, a length occurs twice, what is greatest stands inside, and the cycles
--- are met in another order than that of their lengths.
+-- Entry "census of a map", computed: number of rows and distance differ, a length occurs twice, the greatest distance stands inside, and the cycles are met in another
+-- order than that of their lengths.
 use mathlib.Core.Path.{_≡_, refl, _∙_}
 use mathlib.Core.List.{List, [], _∷_, map}
 use Prim.Native.Nat.{ℕ}
@@ -9,8 +9,9 @@ use Rattle.patterns.specs.declared.Refusal.{Refusal}
 use Rattle.patterns.specs.declared.Refusal.the-variants.{Image}
 use Rattle.patterns.specs.Reading.{fault}
 use Rattle.patterns.specs.Table.{image}
-use Rattle.patterns.specs.Census.{Row, cycleLengths, cyclesOf, occurring, censusRows, stepsToCycle, height, longestCycle}
-use Rattle.patterns.specs.Replies.{numberOf, length-is, refused, CensusAnswer, census-is, census-refused}
+use Rattle.patterns.specs.Census.{Row, cycleLengths, cyclesOf, occurring, censusRows, stepsToCycle, height}
+use Rattle.patterns.specs.declared.reply.Census.the-variants.{Counted, Refused as NotCounted}
+use Rattle.patterns.specs.Replies.{numberOf, length-is, refused, CensusAnswer, census-is, census-refused, censusAnswer, rowOf}
 use Rattle.patterns.specs.Entry.{checkedTable, censusOf, censusAnswered, CensusReplied, ColumnsFilled, RowsReplied, ColumnsReplied}
 use Rattle.patterns.specs.SignedReplies.{CensusReported}
 
@@ -32,9 +33,9 @@ pub lengths-and-steps :
 unfolding cycleLengths cyclesOf occurring stepsToCycle
 lengths-and-steps = (refl, refl, refl, refl)
 
-pub height-and-longest : (height 10 (image table) ≡ 2) × (longestCycle 10 (image table) ≡ 4)
-unfolding height longestCycle
-height-and-longest = (refl, refl)
+pub greatest-distance : height 10 (image table) ≡ 2
+unfolding height
+greatest-distance = refl
 
 -- by rising length, in whatever order the cycles are met; a cycle through all points, and no points
 pub rows-by-length :
@@ -46,25 +47,32 @@ pub rows-by-length :
 unfolding censusRows
 rows-by-length = (refl, refl, refl, refl, refl)
 
--- the reply: 3 rows, distance 2, longest cycle 4; a place behind the rows is kept
+-- the reply: 3 rows, distance 2; a place behind the rows is kept
 pub census-replied :
-    CensusReplied table (row 7 7 ∷ row 7 7 ∷ row 7 7 ∷ row 8 9 ∷ []) (census-is 3 2 4) (row 1 2 ∷ row 2 1 ∷ row 4 1 ∷ row 8 9 ∷ [])
-unfolding censusOf height longestCycle
+    CensusReplied table (row 7 7 ∷ row 7 7 ∷ row 7 7 ∷ row 8 9 ∷ []) (census-is 3 2) (row 1 2 ∷ row 2 1 ∷ row 4 1 ∷ row 8 9 ∷ [])
+unfolding censusOf height
 census-replied = record { reply = refl; output = refl }
+
+-- what each case of the reply says, and a struct of the lent list
+pub census-told :
+    (censusAnswer (Counted 3 2) ≡ census-is 3 2)
+    × (censusAnswer (NotCounted Image) ≡ census-refused 2)
+    × (rowOf (record { «cycle_length» = 4; cycles = 1 }) ≡ row 4 1)
+census-told = (refl, refl, refl)
 
 -- three places suffice and two do not
 pub census-room :
-    (censusAnswered table (censusOf table) (row 0 0 ∷ row 0 0 ∷ row 0 0 ∷ []) ≡ census-is 3 2 4)
+    (censusAnswered table (censusOf table) (row 0 0 ∷ row 0 0 ∷ row 0 0 ∷ []) ≡ census-is 3 2)
     × (censusAnswered table (censusOf table) (row 0 0 ∷ row 0 0 ∷ []) ≡ census-refused 8)
-unfolding censusOf height longestCycle
+unfolding censusOf height
 census-room = (refl, refl)
 
 -- in two columns the places behind the rows are kept
 pub columns-replied :
-    RowsReplied table (7 ∷ 7 ∷ 7 ∷ 8 ∷ 6 ∷ []) (7 ∷ 7 ∷ 7 ∷ 9 ∷ []) (census-is 3 2 4) (1 ∷ 2 ∷ 4 ∷ 8 ∷ 6 ∷ []) (2 ∷ 1 ∷ 1 ∷ 9 ∷ [])
+    RowsReplied table (7 ∷ 7 ∷ 7 ∷ 8 ∷ 6 ∷ []) (7 ∷ 7 ∷ 7 ∷ 9 ∷ []) (census-is 3 2) (1 ∷ 2 ∷ 4 ∷ 8 ∷ 6 ∷ []) (2 ∷ 1 ∷ 1 ∷ 9 ∷ [])
     × ColumnsReplied table (7 ∷ 7 ∷ 7 ∷ []) (7 ∷ 7 ∷ 7 ∷ 8 ∷ 9 ∷ []) (length-is 3) (1 ∷ 2 ∷ 4 ∷ []) (2 ∷ 1 ∷ 1 ∷ 8 ∷ 9 ∷ [])
     × CensusReported table (7 ∷ 7 ∷ 7 ∷ []) (7 ∷ 7 ∷ 7 ∷ 8 ∷ 9 ∷ []) (pos 3) (1 ∷ 2 ∷ 4 ∷ []) (2 ∷ 1 ∷ 1 ∷ 8 ∷ 9 ∷ [])
-unfolding censusOf height longestCycle
+unfolding censusOf height
 columns-replied = (
   record { reply = refl; output = record { lengths-are = refl; counts-are = refl } },
   record { reply = refl; output = record { lengths-are = refl; counts-are = refl } },
@@ -93,9 +101,9 @@ columns-room =
       (record { number = refl; output = first }, record { number = refl; output = second }),
     )
 
--- all three numbers are 0 for no points
-pub census-of-no-points : CensusReplied [] [] (census-is 0 0 0) []
-unfolding censusOf height longestCycle
+-- both numbers are 0 for no points
+pub census-of-no-points : CensusReplied [] [] (census-is 0 0) []
+unfolding censusOf height
 census-of-no-points = record { reply = refl; output = refl }
 
 -- a table that is refused has no other reply, and the list is kept

@@ -20,5 +20,6 @@ pub mod PageExamples
 pub mod PredecessorExamples
 pub mod ArithmeticExamples
 pub mod TableCountExamples
+pub mod PeriodExamples
 pub mod CallExamples
 pub mod ListingExamples

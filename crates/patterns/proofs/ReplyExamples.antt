@@ -1,16 +1,31 @@
--- Replies and lent buffers, computed: the numbers of the causes, a full buffer, one with a place left, and one a place too short.
+-- Replies and lent buffers, computed: the numbers of the causes, the cases of a reply, a full buffer, one with a place left, and one a place too short.
 use mathlib.Core.Path.{_≡_, refl}
 use mathlib.Core.List.{List, [], _∷_, map}
 use Prim.Native.Nat.{ℕ}
-use Rattle.patterns.specs.declared.Refusal.the-variants.{Count, Image, Truncated, NumberForm, Sizes, NotCanonical, Trailing, Room, Position, Wanted, TooLarge, Uncounted}
-use Rattle.patterns.specs.Replies.{numberOf, Answer, length-is, last, first-of-list, lacking, refused}
+use Rattle.patterns.specs.declared.Refusal.the-variants.{Count, Image, Truncated, NumberForm, Sizes, NotCanonical, Trailing, Room, Position, Wanted, TooLarge, Uncounted, TooManyPoints}
+use Rattle.patterns.specs.declared.reply.Reply.the-variants.{Length, Refused}
+use Rattle.patterns.specs.declared.reply.Successor.the-variants.{Length as NextLength, Last, Refused as NoNext}
+use Rattle.patterns.specs.declared.reply.Isomorphism.the-variants.{Points, Lacking, Refused as NotCompared}
+use Rattle.patterns.specs.Replies.{numberOf, Answer, length-is, last, first-of-list, lacking, refused, answerOf, successorAnswer, isomorphismAnswer}
 use Rattle.patterns.specs.Entry.{Outcome, gives, ends, begins, lacks, fails, answered, filled}
 
 -- the table of causes
 pub causes-numbered :
-    map numberOf (Count ∷ Image ∷ Truncated ∷ NumberForm ∷ Sizes ∷ NotCanonical ∷ Trailing ∷ Room ∷ Position ∷ Wanted ∷ TooLarge ∷ Uncounted ∷ [])
-    ≡ 1 ∷ 2 ∷ 3 ∷ 4 ∷ 5 ∷ 6 ∷ 7 ∷ 8 ∷ 9 ∷ 10 ∷ 11 ∷ 12 ∷ []
+    map numberOf (Count ∷ Image ∷ Truncated ∷ NumberForm ∷ Sizes ∷ NotCanonical ∷ Trailing ∷ Room ∷ Position ∷ Wanted ∷ TooLarge ∷ Uncounted ∷ TooManyPoints ∷ [])
+    ≡ 1 ∷ 2 ∷ 3 ∷ 4 ∷ 5 ∷ 6 ∷ 7 ∷ 8 ∷ 9 ∷ 10 ∷ 11 ∷ 12 ∷ 13 ∷ []
 causes-numbered = refl
+
+-- what each case of a running reply says
+pub replies-told :
+    (answerOf (Length 5) ≡ length-is 5)
+    × (answerOf (Refused Image) ≡ refused 2)
+    × (successorAnswer (NextLength 5) ≡ length-is 5)
+    × (successorAnswer Last ≡ last)
+    × (successorAnswer (NoNext Sizes) ≡ refused 5)
+    × (isomorphismAnswer (Points 5) ≡ length-is 5)
+    × (isomorphismAnswer Lacking ≡ lacking)
+    × (isomorphismAnswer (NotCompared Image) ≡ refused 2)
+replies-told = (refl, refl, refl, refl, refl, refl, refl, refl)
 
 -- the reply and the buffer afterwards
 abbrev on : Outcome ℕ → List ℕ → Answer × List ℕ

@@ -12,7 +12,8 @@ use Rattle.patterns.specs.System.{codes}
 use Rattle.patterns.specs.Written.{written}
 use Rattle.patterns.specs.Reading.{done, cut}
 use Rattle.patterns.specs.Table.{image}
-use Rattle.patterns.specs.Census.{Row, censusRows, height, longestCycle}
+use Rattle.patterns.specs.Census.{Row, censusRows, height}
+use Rattle.patterns.specs.Period.{period}
 use Rattle.patterns.specs.Entry.{acceptOf, codeOfMap}
 use Rattle.patterns.specs.Sheet.{AllHold, table-has-code, refused-with}
 
@@ -126,6 +127,7 @@ pub census-height : height 4 table ≡ 1
 unfolding height
 census-height = refl
 
-pub census-longest : longestCycle 4 table ≡ 2
-unfolding longestCycle
-census-longest = refl
+-- the round length is since document 02, paper 8, the period of the map, an entry of its own
+pub census-period : period 4 table ≡ 2
+unfolding period
+census-period = refl

@@ -1,4 +1,5 @@
--- The census of a map: document 01, "Refusing", last but one paragraph, and document 02, paper 1, which fixes the order of its rows.
+-- The census of a map: document 01, "Refusing", last but one paragraph; document 02, paper 1, which fixes the order of its rows, and paper 8, which takes the round
+-- length out of it.
 use mathlib.Core.Bool.{cond, not}
 use mathlib.Core.List.{List, [], _∷_, map}
 use Prim.Native.Nat.{ℕ, zero, suc}
@@ -55,8 +56,3 @@ module _ (n : ℕ) (f : ℕ → ℕ) where
   unfoldable pub height : ℕ
   unfolding stepsToCycle
   height = greatest (map (stepsToCycle n) (range 0 n))
-
-  -- the longest cycle length [document 01: round length]
-  unfoldable pub longestCycle : ℕ
-  unfolding cycleLengths
-  longestCycle = greatest cycleLengths

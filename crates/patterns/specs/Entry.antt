@@ -17,7 +17,7 @@ use Rattle.patterns.specs.Reading.{Result, done, fault, andThen, accepte
 use Rattle.patterns.specs.Table.{image, isTable, systemOfTable}
 use Rattle.patterns.specs.MapOf.{mapOf}
 use Rattle.patterns.specs.Isomorphism.{Isomorphism}
-use Rattle.patterns.specs.Census.{Row, rowsOf, censusRows, height, longestCycle}
+use Rattle.patterns.specs.Census.{Row, rowsOf, censusRows, height}
 use Rattle.patterns.specs.Replies.{numberOf, Answer, length-is, last, first-of-list, lacking, refused, CensusAnswer, census-is, census-refused, PartAnswer, part-is, part-refused}
 
 -- What an entry finds before it looks at the lent output: a result to write, "last", "first", "none", or a refusal.
@@ -119,7 +119,7 @@ rowsFound f = outcome (censusOf f) gives
 
 abbrev pub censusAnswered : List ℕ → Result (List Row) → List Row → CensusAnswer
 censusAnswered f (done rows) out =
-    let whole = census-is (length rows) (height (length f) (image f)) (longestCycle (length f) (image f)) in
+    let whole = census-is (length rows) (height (length f) (image f)) in
     cond (leb (length rows) (length out)) whole (census-refused (numberOf Room))
 censusAnswered f (fault c) out = census-refused (numberOf c)
 
@@ -151,10 +151,6 @@ pub record ColumnsReplied (f lengths counts : List ℕ) (answer : Answer) (lengt
 -- of a census, the greatest distance of a point from its cycle alone, or the refusal of the table
 abbrev pub heightOf : List ℕ → Answer
 heightOf f = answer (checkedTable f) (λ f. length-is (height (length f) (image f)))
-
--- of a census, the longest cycle alone, or the refusal of the table
-abbrev pub longestOf : List ℕ → Answer
-longestOf f = answer (checkedTable f) (λ f. length-is (longestCycle (length f) (image f)))
 
 -- The part of a code that shows a component: where its bytes begin and end, and how many of the component's rotations equal it [document 02, paper 6].
 pub record Part : Type 0 where

@@ -16,6 +16,7 @@ pub mod Page
 pub mod Predecessor
 pub mod Arithmetic
 pub mod TableCount
+pub mod Period
 pub mod Calls
 pub mod SignedReplies
 pub mod Decimal

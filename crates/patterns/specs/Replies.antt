@@ -3,7 +3,7 @@
 use Prim.Native.Nat.{ℕ}
 use Rattle.patterns.specs.Census.{Row}
 use Rattle.patterns.specs.declared.Refusal.{Refusal}
-use Rattle.patterns.specs.declared.Refusal.the-variants.{Count, Image, Truncated, NumberForm, Sizes, NotCanonical, Trailing, Room, Position, Wanted, TooLarge, Uncounted}
+use Rattle.patterns.specs.declared.Refusal.the-variants.{Count, Image, Truncated, NumberForm, Sizes, NotCanonical, Trailing, Room, Position, Wanted, TooLarge, Uncounted, TooManyPoints}
 use Rattle.patterns.specs.declared.reply.Reply.{Reply}
 use Rattle.patterns.specs.declared.reply.Reply.the-variants.{Length, Refused}
 use Rattle.patterns.specs.declared.reply.Successor.{Successor}
@@ -36,6 +36,7 @@ numberOf Position = 9
 numberOf Wanted = 10
 numberOf TooLarge = 11
 numberOf Uncounted = 12
+numberOf TooManyPoints = 13
 
 -- A reply in document 01's words: a length (or n, or another number), "last", "none", or a refusal with its number; and "first" of document 02, paper 3.
 pub data Answer : Type 0 where
@@ -45,9 +46,9 @@ pub data Answer : Type 0 where
   lacking : Answer
   refused : ℕ → Answer
 
--- the number of entries, the greatest distance of a point from its cycle and the longest cycle, or a refusal with its number
+-- the number of entries and the greatest distance of a point from its cycle, or a refusal with its number
 pub data CensusAnswer : Type 0 where
-  census-is : ℕ → ℕ → ℕ → CensusAnswer
+  census-is : ℕ → ℕ → CensusAnswer
   census-refused : ℕ → CensusAnswer
 
 -- how many codes a page has and how many bytes they take together, or a refusal with its number
@@ -85,7 +86,7 @@ isomorphismAnswer Lacking = lacking
 isomorphismAnswer (NotCompared c) = refused (numberOf c)
 
 abbrev pub censusAnswer : Census → CensusAnswer
-censusAnswer (Counted rows height longest) = census-is rows height longest
+censusAnswer (Counted rows height) = census-is rows height
 censusAnswer (NotCounted c) = census-refused (numberOf c)
 
 abbrev pub partAnswer : Stretch → PartAnswer

@@ -15,6 +15,11 @@ use Rattle.patterns.specs.System.{System, compareGenerated}
 abbrev pub image : List ℕ → ℕ → ℕ
 image f x = getD f x 0
 
+-- k steps from x
+abbrev pub iterate : (ℕ → ℕ) → ℕ → ℕ → ℕ
+iterate f zero x = x
+iterate f (suc k) x = iterate f k (f x)
+
 -- f x, f (f x), .., k points in all
 abbrev pub orbit : (ℕ → ℕ) → ℕ → ℕ → List ℕ
 orbit f zero x = []

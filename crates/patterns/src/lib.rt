@@ -28,6 +28,7 @@ pub enum Refusal {
     Wanted,
     TooLarge,
     Uncounted,
+    TooManyPoints,
 }
 
 // The number of a cause.
@@ -47,6 +48,7 @@ pub fn number(cause: Refusal) -> u8
         Refusal::Wanted => 10,
         Refusal::TooLarge => 11,
         Refusal::Uncounted => 12,
+        Refusal::TooManyPoints => 13,
     }
 }
 

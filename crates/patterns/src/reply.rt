@@ -34,9 +34,9 @@ pub enum Isomorphism {
     Refused(Refusal),
 }
 
-// The number of rows, the greatest distance of a point from its cycle and the longest cycle, or a refusal with its cause.
+// The number of rows and the greatest distance of a point from its cycle, or a refusal with its cause.
 pub enum Census {
-    Counted(usize, usize, usize),
+    Counted(usize, usize),
     Refused(Refusal),
 }
 
@@ -52,7 +52,7 @@ pub enum Stretch {
     Refused(Refusal),
 }
 
-// A number of 64 bits, or a refusal with its cause: how many tables have a code [document 02, paper 7].
+// A number of 64 bits, or a refusal with its cause: how many tables have a code [document 02, paper 7], or the period of a map [paper 8].
 pub enum Quantity {
     Number(u64),
     Refused(Refusal),

@@ -1,14 +1,16 @@
 -- The least common multiple: of two positive numbers, and of a list of them. It divides every common multiple.
-use mathlib.Core.Path.{_≡_, refl, _∙_}
-use mathlib.Core.List.{List, [], _∷_}
-use Prim.Native.Nat.{ℕ, zero, suc, _+_, _*_, _/_, _%_, _≤_, _<_, _∣_}
-use native.Mathlib.Nat.{mul-pos, mod-lt, lt-of-mul-lt-mul-left, mul-comm, suc-mul, dvd-refl, dvd-add, dvd-mul-left, dvd-trans, dvd-mod-iff, le-of-dvd, dvd-antisymm, one-dvd, mod-eq-zero-of-dvd, dvd-of-mod-eq-zero, mul-div-cancel'}
+use mathlib.Core.Path.{_≡_, refl, ap, sym, _∙_}
+use mathlib.Core.List.{List, [], _∷_, _++_}
+use Prim.Native.Nat.{ℕ, zero, suc, _+_, _*_, _/_, _%_, _^_, _≤_, _<_, _∣_}
+use native.Mathlib.Nat.{mul-pos, mod-lt, lt-of-mul-lt-mul-left, one-mul, mul-one, mul-comm, mul-assoc, suc-mul, mul-le-mul-left, mul-le-mul-right, le-trans, pow-zero, pow-succ', pow-le-pow-right, dvd-refl, dvd-add, dvd-mul-left, dvd-trans, dvd-mod-iff, le-of-dvd, dvd-antisymm, one-dvd, mod-eq-zero-of-dvd, dvd-of-mod-eq-zero, mul-div-cancel'}
 use native.Mathlib.Omega.{arith}
 use lib.Dec.{eqb}
+use lib.ListN.{length}
 use borrow.Author.Tests.{eq-eqb, eqb-true, eqb-false}
 use Rattle.lists.proofs.Tests.{_∈_, by-test, either}
 use Rattle.lists.proofs.Comparison.{compare-lawful}
-use Rattle.lists.proofs.Permute.{Perm, perm-sym, perm-member}
+use Rattle.lists.specs.Select.{total}
+use Rattle.lists.proofs.Permute.{Perm, perm-sym, perm-member, total-one, total-mono, member-total}
 use Rattle.lists.proofs.Members.{in-head, in-tail, in-cons-cases, not-in-nil}
 use Rattle.period_theory.specs.Multiples.{multipleFrom, lcm, lcmFrom}
 
@@ -129,11 +131,43 @@ module _ (l : List ℕ) (h : Positive l) where
   pub lcms-least : (c : ℕ) → 0 < c → Common l c → lcmFrom 1 l ≤ c
   lcms-least c p d = le-of-dvd p (lcms-divides c d)
 
-perm-divides : {l m : List ℕ} → Perm l m → Positive l → Positive m → lcmFrom 1 l ∣ lcmFrom 1 m
-perm-divides {l} {m} p h k = lcms-divides l h (lcmFrom 1 m) (λ x i. lcms-common m k x (perm-member compare-lawful p i))
+-- l has no numbers but those of m
+abbrev pub Inside : List ℕ → List ℕ → Type 0
+Inside l m = (x : ℕ) → x ∈ l → x ∈ m
 
--- the order of the numbers does not matter
+pub lcms-inside : {l m : List ℕ} → Inside l m → Positive m → lcmFrom 1 l ∣ lcmFrom 1 m
+lcms-inside {l} {m} i k = lcms-divides l (λ x e. k x (i x e)) (lcmFrom 1 m) (λ x e. lcms-common m k x (i x e))
+
+-- neither the order of the numbers matters nor how often one occurs
+pub lcms-same : {l m : List ℕ} → Inside l m → Inside m l → Positive l → lcmFrom 1 l ≡ lcmFrom 1 m
+lcms-same i j h = dvd-antisymm (lcms-inside i (λ x e. h x (j x e))) (lcms-inside j h)
+
 pub lcms-perm : {l m : List ℕ} → Perm l m → Positive l → lcmFrom 1 l ≡ lcmFrom 1 m
-lcms-perm {l} {m} p h =
-    let k : Positive m = λ x i. h x (perm-member compare-lawful (perm-sym p) i) in
-    dvd-antisymm (perm-divides p h k) (perm-divides (perm-sym p) k h)
+lcms-perm p h = lcms-same (λ x. perm-member compare-lawful p) (λ x. perm-member compare-lawful (perm-sym p)) h
+
+-- one number more
+pub lcms-snoc : (a : ℕ) (l : List ℕ) (x : ℕ) → lcmFrom a (l ++ x ∷ []) ≡ lcm (lcmFrom a l) x
+unfolding lcmFrom
+lcms-snoc a [] x = refl
+lcms-snoc a (y ∷ l) x = lcms-snoc (lcm a y) l x
+
+-- of numbers up to n it is at most n to the power of how many there are
+lcms-below : (n a : ℕ) (l : List ℕ) → 0 < a → ((x : ℕ) → x ∈ l → (0 < x) × (x ≤ n)) → lcmFrom a l ≤ a * n ^ length l
+unfolding lcmFrom
+lcms-below n a [] k h = omega (arith, ap (λ i. a * i) (pow-zero n), mul-one a)
+lcms-below n a (x ∷ l) k h =
+    let i = h x in-head in
+    let r = lcms-below n (lcm a x) l (lcm-positive a x k (i .0)) (λ y m. h y (in-tail m)) in
+    let s : lcm a x * n ^ length l ≤ a * n * n ^ length l =
+    mul-le-mul-right (n ^ length l) (le-trans (lcm-bound a x k (i .0)) (mul-le-mul-left a (i .1))) in
+    let e : a * n * n ^ length l ≡ a * n ^ suc (length l) = mul-assoc a n (n ^ length l) ∙ ap (λ q. a * q) (sym (pow-succ' n (length l))) in
+    omega (arith, r, s, e)
+
+-- of numbers that add up to at most n it is at most n to the power n
+pub lcms-power : (n : ℕ) (l : List ℕ) → Positive l → total (λ x. x) l ≤ n → lcmFrom 1 l ≤ n ^ n
+lcms-power n l h t =
+    let few : length l ≤ n = omega (arith, total-one l, total-mono (λ x. 1) (λ x. x) l h) in
+    let below = lcms-below n 1 l (omega arith) (λ x m. (h x m, omega (arith, member-total (λ y. y) m))) in
+    by-test (eqb n 0)
+    (λ e. let z : length l ≡ n = omega (arith, eqb-true n 0 e) in omega (arith, below, one-mul (n ^ length l), ap (λ i. n ^ i) z))
+    (λ e. omega (arith, below, one-mul (n ^ length l), pow-le-pow-right {n = n} (let z = eqb-false n 0 e in omega arith) few))

@@ -5,14 +5,13 @@ use Prim.Native.Nat.{ℕ, zero, suc, _+_, _-_, _*_, _/_, _%_, _<_, _∣_}
 use native.Mathlib.Nat.{zero-mul, suc-mul, mod-lt, div-add-mod', dvd-of-mod-eq-zero, div-mul-cancel}
 use native.Mathlib.Omega.{arith}
 use lib.ListN.{length}
-use Rattle.patterns.specs.Table.{onCycle, cycleFrom}
+use Rattle.patterns.specs.Table.{iterate, onCycle, cycleFrom}
 use Rattle.patterns.specs.Census.{cycleLengths}
-use Rattle.map_theory.specs.Iteration.{iterate}
 use Rattle.map_theory.proofs.Orbits.{iterate-add, iterate-swap, orbit-length, iterate-inside, onCycle-moves, onCycle-back, every-point-reaches-cycle}
 use Rattle.map_theory.proofs.Leaders.{Period, cycle-period, of-leaders, leader-onCycle, has-leader}
 use Rattle.map_theory.proofs.CensusTheory.{cycle-length-same, in-cycleLengths, of-cycleLengths, cycleLengths-positive}
 use Rattle.period_theory.specs.Multiples.{lcmFrom}
-use Rattle.period_theory.specs.Period.{BringsBack, LeastPeriod}
+use Rattle.period_theory.specs.LeastPeriod.{BringsBack, LeastPeriod}
 use Rattle.period_theory.proofs.CommonMultiples.{Common, lcms-positive, lcms-common, lcms-least}
 
 module _ (f : ℕ → ℕ) {x : ℕ} where
@@ -84,16 +83,16 @@ module _ (n : ℕ) (f : ℕ → ℕ) (inside : (x : ℕ) → x < n → f x < n) 
       rw s (onCycle-moves n f (n - r .0) (iterate f (r .0) x) (r .2))
 
   -- "once every point is on a cycle, p further steps bring each point back" [document 02, paper 8]: n steps bring every point to a cycle
-  pub back-further : (q : ℕ) → BringsBack n f q → (x : ℕ) → x < n → iterate f (n + q) x ≡ iterate f n x
-  back-further q b x h = iterate-add f n q x ∙ b (iterate f n x) (iterate-inside n f inside n x h) (onCycle-after x h)
+  pub back-further : (q : ℕ) → BringsBack n f q → (x : ℕ) → x < n → iterate f q (iterate f n x) ≡ iterate f n x
+  back-further q b x h = b (iterate f n x) (iterate-inside n f inside n x h) (onCycle-after x h)
 
   -- every point of a cycle is n steps after some point
-  pub further-back : (q : ℕ) → ((x : ℕ) → x < n → iterate f (n + q) x ≡ iterate f n x) → BringsBack n f q
+  pub further-back : (q : ℕ) → ((x : ℕ) → x < n → iterate f q (iterate f n x) ≡ iterate f n x) → BringsBack n f q
   further-back q b x h e =
       let r = onCycle-back n f n x e in
       let y = iterate f (r .0) x in
       let s : iterate f n y ≡ x = iterate-swap f n (r .0) x ∙ r .1 in
-      ap (iterate f q) (sym s) ∙ sym (iterate-add f n q y) ∙ b y (iterate-inside n f inside (r .0) x h) ∙ s
+      ap (iterate f q) (sym s) ∙ b y (iterate-inside n f inside (r .0) x h) ∙ s
 
 pub period-unique : {n : ℕ} {f : ℕ → ℕ} {p q : ℕ} → LeastPeriod n f p → LeastPeriod n f q → p ≡ q
 period-unique {p = p} {q = q} a b = omega (arith, a .least q (b .positive) (b .brings-back), b .least p (a .positive) (a .brings-back))

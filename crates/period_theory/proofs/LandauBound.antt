@@ -14,12 +14,15 @@ use Rattle.lists.proofs.Members.{in-head, in-tail, in-cons-cases, not-in-nil, i
 use Rattle.lists.proofs.Permute.{total-mono, member-total}
 use Rattle.lists.proofs.Places.{range-length, getD-range}
 use Rattle.lists.proofs.Gathering.{getD-map}
-use Rattle.patterns.specs.Census.{cycleLengths}
-use Rattle.map_theory.proofs.CensusTheory.{greatest-bound, lengths-add-up, cycle-points-bound, cycleLengths-positive}
+use Rattle.patterns.specs.Census.{occurring}
+use Rattle.patterns.specs.Period.{period}
+use Rattle.map_theory.proofs.CensusTheory.{greatest-bound}
+use Rattle.map_theory.proofs.Occurring.{occurring-positive, occurring-total}
 use Rattle.period_theory.specs.Multiples.{lcmFrom}
 use Rattle.period_theory.specs.Landau.{primes, cost, taking, best, products, landau}
 use Rattle.period_theory.proofs.CommonMultiples.{Positive, Common, lcms-least}
 use Rattle.period_theory.proofs.Factors.{cost-most, cost-near, Stripped, stripped}
+use Rattle.period_theory.proofs.TriedPeriods.{period-occurring}
 
 small-exponent : (p e : ℕ) → 2 ≤ p → p ^ e ≤ 121 → e < 7
 small-exponent p e h k =
@@ -98,21 +101,20 @@ lcm-at-most n k l h t =
     let c = common-multiple primes primes-from-two n k l h f (omega (arith, total-mono cost (λ x. x) l (λ x m. cost-most x))) in
     omega (arith, lcms-least l h (c .0) (c .1) (c .3), c .2)
 
--- the period of a map of at most m points
-period-within : (n : ℕ) (f : ℕ → ℕ) → ((x : ℕ) → x < n → f x < n) → (m : ℕ) → m ≤ 120 → n ≤ m → lcmFrom 1 (cycleLengths n f) ≤ getD landau m 0
-period-within n f inside m k h =
-    lcm-at-most m k (cycleLengths n f) (cycleLengths-positive n f) (omega (arith, lengths-add-up n f inside, cycle-points-bound n f inside))
-
--- the period of a map of n points
-pub period-at-most : (n : ℕ) (f : ℕ → ℕ) → ((x : ℕ) → x < n → f x < n) → n ≤ 120 → lcmFrom 1 (cycleLengths n f) ≤ getD landau n 0
-period-at-most n f inside k = period-within n f inside n k (omega arith)
-
 -- document 02, paper 9: "for n = 5 the length is 6, for n = 7 it is 12, for n = 0 it is 1"; and the greatest of all
 pub landau-values : map (λ n. getD landau n 0) (0 ∷ 5 ∷ 7 ∷ 120 ∷ []) ≡ 1 ∷ 6 ∷ 12 ∷ 5354228880 ∷ []
 unfolding landau
 landau-values = refl
 
-pub period-below : (n : ℕ) (f : ℕ → ℕ) → ((x : ℕ) → x < n → f x < n) → n ≤ 120 → lcmFrom 1 (cycleLengths n f) ≤ 5354228880
-period-below n f inside k =
+pub lcm-below : (l : List ℕ) → Positive l → total (λ x. x) l ≤ 120 → lcmFrom 1 l ≤ 5354228880
+lcm-below l h t =
     let last : getD landau 120 0 ≡ 5354228880 = ap (λ l. getD l 3 0) landau-values in
-    rw last at (period-within n f inside 120 (omega arith) k)
+    rw last at (lcm-at-most 120 (omega arith) l h t)
+
+-- so for the period of a map
+module _ (n : ℕ) (f : ℕ → ℕ) (inside : (x : ℕ) → x < n → f x < n) (small : n ≤ 120) where
+  pub period-at-most : period n f ≤ getD landau n 0
+  period-at-most = rw (period-occurring n f inside) (lcm-at-most n small (occurring n f) (occurring-positive n f) (occurring-total n f inside))
+
+  pub period-below : period n f ≤ 5354228880
+  period-below = rw (period-occurring n f inside) (lcm-below (occurring n f) (occurring-positive n f) (omega (arith, occurring-total n f inside)))

@@ -70,14 +70,15 @@ checked-table f e =
     (λ t. record { table = t; small = ltb-false 200 (length f) small })
     (λ t. let k : fault Image ≡ done f = sym (rw (small, t)) ∙ e in clash cc))
 
+-- a refusal is told only where the checks of a table find it
+pub told-refused : (o : Result (List ℕ)) {c : Refusal} → Refused c ≡ tableReply o → o ≡ fault c
+told-refused (done g) p = clash cc
+told-refused (fault d) {c} p = let z : c ≡ d = cc in ap fault (sym z)
+
 -- What the reply says of the table.
 module _ (f : List ℕ) {r : Reply} (e : r ≡ tableReply (checkedTable f)) where
   pub table-refused : (c : Refusal) → r ≡ Refused c → checkedTable f ≡ fault c
-  table-refused c q = of (checkedTable f) (sym q ∙ e)
-    where
-      of : (o : Result (List ℕ)) → Refused c ≡ tableReply o → o ≡ fault c
-      of (done g) p = clash cc
-      of (fault d) p = let z : c ≡ d = cc in ap fault (sym z)
+  table-refused c q = told-refused (checkedTable f) (sym q ∙ e)
 
   pub table-checked : (n : ℕ) → r ≡ Length n → (checkedTable f ≡ done f) × (length f ≡ n) × Table f
   unfolding checkedTable

@@ -17,7 +17,7 @@ pub const ENTRIES: [&str; 17] = [
     "isomorphism",
     "census",
     "height",
-    "longest_cycle",
+    "period",
     "component_start",
     "component_end",
     "component_turns",
@@ -189,8 +189,8 @@ impl Comparison {
         self.replies("height", table, |side| (side.height)(table));
     }
 
-    pub fn longest_cycle(&mut self, table: &[u8]) {
-        self.replies("longest_cycle", table, |side| (side.longest_cycle)(table));
+    pub fn period(&mut self, table: &[u8]) {
+        self.kept("period", table, |side, table| (side.period)(table));
     }
 
     /// Both ends of a component, and its turns.

@@ -70,7 +70,7 @@ pub fn table(comparison: &mut Comparison, table: &[u8]) {
     }
     census(comparison, table);
     comparison.height(table);
-    comparison.longest_cycle(table);
+    comparison.period(table);
 }
 
 /// Every table of n points.

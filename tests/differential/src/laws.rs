@@ -17,11 +17,11 @@ const TOO_LARGE: i64 = -11;
 const EMPTY: [u8; 2] = [0, 0];
 const FIXED_POINT: [u8; 4] = [1, 1, 1, 1];
 
-fn plus(a: &[u8], b: &[u8]) -> Code {
+pub fn plus(a: &[u8], b: &[u8]) -> Code {
     written(|out| (ENGINE.sum)(a, b, out))
 }
 
-fn times(a: &[u8], b: &[u8]) -> Code {
+pub fn times(a: &[u8], b: &[u8]) -> Code {
     written(|out| (ENGINE.product)(a, b, out))
 }
 
@@ -81,7 +81,7 @@ pub fn neutral(comparison: &mut Comparison, code: &[u8]) {
 }
 
 /// The points of the second map behind those of the first.
-fn side_by_side(f: &[u8], g: &[u8]) -> Vec<u8> {
+pub fn side_by_side(f: &[u8], g: &[u8]) -> Vec<u8> {
     f.iter().copied().chain(g.iter().map(|&y| f.len() as u8 + y)).collect()
 }
 
@@ -102,15 +102,15 @@ fn components(code: &[u8]) -> Vec<(&[u8], i64)> {
 }
 
 /// How many cycles of each length a map has.
-type Cycles = BTreeMap<usize, usize>;
+pub type Cycles = BTreeMap<usize, usize>;
 
-fn cycles(table: &[u8]) -> Cycles {
+pub fn cycles(table: &[u8]) -> Cycles {
     let (mut lengths, mut counts) = ([0; 19], [0; 19]);
     let rows = (ENGINE.census)(table, &mut lengths, &mut counts) as usize;
     lengths.into_iter().zip(counts).take(rows).map(|(length, count)| (length as usize, count as usize)).collect()
 }
 
-fn gcd(a: usize, b: usize) -> usize {
+pub fn gcd(a: usize, b: usize) -> usize {
     if b == 0 {
         a
     } else {

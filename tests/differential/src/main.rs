@@ -6,6 +6,7 @@ mod compare;
 mod inputs;
 mod laws;
 mod model;
+mod periods;
 
 use compare::{Comparison, ENTRIES};
 use laws::Laws;
@@ -16,7 +17,7 @@ use std::path::Path;
 use std::process::ExitCode;
 
 /// The calls that a run has to make.
-const LEAST_CALLS: u64 = 40_000_000;
+const LEAST_CALLS: u64 = 60_000_000;
 
 /// How often the laws of three codes have to end with a code on both sides, and with 11 on both.
 const LEAST_GIVEN: u64 = 25_000;
@@ -567,6 +568,7 @@ fn main() -> ExitCode {
     whole_lists(comparison);
     table_counts(comparison, random, 2_000);
     tables_of_sums(comparison, random, 20_000);
+    periods::run(comparison, random);
     if report(comparison, laws) {
         ExitCode::SUCCESS
     } else {

@@ -22,7 +22,7 @@ impl Line<'_> {
     }
 }
 
-/// A census as the data has it: height, longest cycle, and the rows.
+/// A census as the data has it: height, and the rows.
 fn census(side: &Side, table: &[u8], room: usize) -> (i64, Vec<u8>) {
     let (mut lengths, mut counts) = (vec![0; room], vec![0; room]);
     let reply = (side.census)(table, &mut lengths, &mut counts);
@@ -30,8 +30,7 @@ fn census(side: &Side, table: &[u8], room: usize) -> (i64, Vec<u8>) {
         return (reply, Vec::new());
     }
     let rows = lengths.into_iter().zip(counts).take(reply as usize).flat_map(|(length, count)| [length, count]);
-    let heads = [(side.height)(table) as u8, (side.longest_cycle)(table) as u8];
-    (reply, heads.into_iter().chain(rows).collect())
+    (reply, std::iter::once((side.height)(table) as u8).chain(rows).collect())
 }
 
 /// The reply to a case, and what was written.
@@ -44,6 +43,7 @@ fn answer(side: &Side, entry: usize, room: usize, first: &(usize, Vec<u8>), seco
     let reply = match entry {
         1 => return ((side.accept)(input), Vec::new()),
         11 => return ((side.table_count)(input), Vec::new()),
+        12 => return ((side.period)(input), Vec::new()),
         2 => (side.first)(*count, &mut out),
         3 => (side.successor)(input, &mut out),
         4 => (side.code_of_map)(input, &mut out),
@@ -58,11 +58,11 @@ fn answer(side: &Side, entry: usize, room: usize, first: &(usize, Vec<u8>), seco
     (reply, out)
 }
 
-const NAMES: [&str; 12] =
-    ["", "accept", "first", "successor", "code_of_map", "map_of_code", "isomorphism", "census", "predecessor", "sum", "product", "table_count"];
+const NAMES: [&str; 13] =
+    ["", "accept", "first", "successor", "code_of_map", "map_of_code", "isomorphism", "census", "predecessor", "sum", "product", "table_count", "period"];
 
 /// The files of cases.
-const FILES: [&str; 15] = [
+const FILES: [&str; 16] = [
     "examples",
     "damaged",
     "damaged_long",
@@ -78,6 +78,7 @@ const FILES: [&str; 15] = [
     "sums_long",
     "products_long",
     "table_counts",
+    "periods",
 ];
 
 /// One line of a file of cases.

@@ -2,8 +2,6 @@ use denote.Ref.{now}
 use mathlib.Core.List.{List}
 use Prim.Native.Nat.{ℕ}
 use borrow.Author.Needs.{needs}
-use Rattle.tables.specs.Tables.{Table}
-use Rattle.census.specs.Rows.{RowsOf}
 use Rattle.census_entries.proofs.Decisions.{decided-refused, decided-counted}
 use Rattle.census_entries.proofs.decide.Statement.{statement}
 use Rattle.census_entries.proofs.decide.Tie as tie
@@ -15,24 +13,16 @@ table c = now (c .before .before .args .table)
 abbrev chosen : tie.After-known-told2 → tie.After-choose
 chosen c = c .before .before .before .before
 
--- rows were counted
-counted : (c : tie.After-known-told2) → Table (table (chosen c)) × RowsOf (table (chosen c)) (chosen c .choose .result .rows)
-counted c = chosen c .choose .ensures .counted (c .before .told2 .given .0 .0) (c .before .told2 .given .1)
-
 height-requires : tie.Need-height-requires
-height-requires c κs = counted c .0
-
-longest-requires : tie.Need-longest-requires
-longest-requires c κs = counted (c .before) .1 .few
+height-requires c κs = chosen c .choose .ensures .counted (c .before .told2 .given .0 .0) (c .before .told2 .given .1)
 
 returns : tie.Need-returns
 returns c = decided-refused (c .before .before .before .before .choose .ensures) (c .before .told .given .1)
 
 returns-2 : tie.Need-returns-2
 returns-2 c =
-    let h = c .before in
-    let k = h .before in
-    decided-counted (chosen k .choose .ensures) (k .before .told2 .given .1) (h .height .ensures) (c .longest .ensures (table (chosen k)) (counted k .1))
+    let k = c .before in
+    decided-counted (chosen k .choose .ensures) (k .before .told2 .given .1) (c .height .ensures)
 
 pub decide-spec : {M : Type 1} → statement M
 decide-spec =
@@ -42,6 +32,5 @@ decide-spec =
     (λ c. search needs)
     (λ c. search needs)
     height-requires
-    longest-requires
     returns
     returns-2)

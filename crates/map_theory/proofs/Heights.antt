@@ -1,14 +1,12 @@
--- The greatest number of a list, taken number by number; the greatest distance of a point from its cycle, taken point by point.
+-- The greatest distance of a point from its cycle, taken point by point.
 use mathlib.Core.Path.{_≡_, refl, ap, ap₂, sym, _∙_}
 use mathlib.Core.List.{List, [], _∷_, _++_, map, map-append}
 use mathlib.Core.Bool.{cond}
-use Prim.Native.Nat.{ℕ, _+_, _≤_, _<_}
+use Prim.Native.Nat.{ℕ, _+_, _≤_}
 use native.Mathlib.Omega.{arith}
 use native.Mathlib.Numerals.{add-one}
 use lib.Dec.{leb}
 use borrow.Author.Tests.{le-leb, leb-true, leb-false}
-use lib.ListN.{length, take, getD}
-use lib.Seq.{take-suc, take-all}
 use Rattle.lists.specs.Select.{range}
 use Rattle.lists.proofs.Tests.{by-test}
 use Rattle.lists.proofs.Places.{range-last}
@@ -47,22 +45,6 @@ greater-swap m x y = let a = half m x y in let b = half m y x in omega arith
 greatest-snoc : (l : List ℕ) (x : ℕ) → greatest (l ++ (x ∷ [])) ≡ greater (greatest l) x
 greatest-snoc [] x = refl
 greatest-snoc (y ∷ l) x = ap (λ m. greater m y) (greatest-snoc l x) ∙ greater-swap (greatest l) x y
-
--- the greatest of the first i + 1 numbers
-greatest-next : (s : List ℕ) (i : ℕ) → i < length s → greatest (take (i + 1) s) ≡ greater (greatest (take i s)) (getD s i 0)
-greatest-next s i h = rw (add-one i, take-suc s i 0) (greatest-snoc (take i s) (getD s i 0))
-
--- the next number is not less than those before, or it is
-pub greatest-taken : (s : List ℕ) (i : ℕ) {m : ℕ} → i < length s → m ≡ greatest (take i s) → m ≤ getD s i 0 → getD s i 0 ≡ greatest (take (i + 1) s)
-greatest-taken s i {m} h e b =
-    sym (greatest-next s i h ∙ ap (λ g. greater g (getD s i 0)) (sym e) ∙ greater-right m (getD s i 0) b)
-
-pub greatest-passed : (s : List ℕ) (i : ℕ) {m : ℕ} → i < length s → m ≡ greatest (take i s) → getD s i 0 < m → m ≡ greatest (take (i + 1) s)
-greatest-passed s i {m} h e b =
-    sym (greatest-next s i h ∙ ap (λ g. greater g (getD s i 0)) (sym e) ∙ greater-left m (getD s i 0) (omega arith))
-
-pub greatest-all : (s : List ℕ) (i : ℕ) → length s ≤ i → greatest (take i s) ≡ greatest s
-greatest-all s i h = ap greatest (take-all i s h)
 
 module _ (n : ℕ) (f : ℕ → ℕ) where
   -- the greatest distance of the first i points

@@ -1,0 +1,3 @@
+-- The laws of the period's functions, in plain terms; their proofs cite them.
+pub mod LcmSteps
+pub mod SmallTables

@@ -1,0 +1,3 @@
+-- What the functions behind the period of a map are asked for.
+pub mod FittingMultiples
+pub mod SmallTables
