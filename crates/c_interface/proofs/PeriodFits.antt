@@ -9,7 +9,7 @@ use Rattle.patterns.specs.Table.{image}
 use Rattle.patterns.specs.Replies.{length-is}
 use Rattle.patterns.specs.Entry.{answer}
 use Rattle.patterns.specs.Period.{periodOf}
-use Rattle.patterns.proofs.PeriodExamples.{small-cases}
+use Rattle.tables.proofs.SmallTables.{small-cases}
 use Rattle.map_theory.proofs.Isomorphisms.{table-below}
 use Rattle.period_theory.proofs.LandauBound.{period-below}
 use Rattle.c_interface.proofs.Fitting.{Fits, refused-fits}

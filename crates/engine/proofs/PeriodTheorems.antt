@@ -10,19 +10,19 @@ use lib.ListN.{length, take}
 use borrow.Author.Tests.{ltb-true, ltb-false}
 use Rattle.lists.proofs.Tests.{by-test, clash}
 use Rattle.patterns.specs.System.{System}
-use Rattle.patterns.specs.Table.{image, iterate, isTable, systemOf, systemOfTable}
+use Rattle.patterns.specs.Table.{image, isTable, systemOf, systemOfTable}
 use Rattle.patterns.specs.Census.{Row, cycleLengths}
 use Rattle.patterns.specs.Reading.{done, accepted}
 use Rattle.patterns.specs.Replies.{Answer, length-is, refused, census-is}
 use Rattle.patterns.specs.Entry.{answer, checkedTable, codeOfMap, CensusReplied}
 use Rattle.patterns.specs.Period.{period, periodOf}
-use Rattle.patterns.proofs.PeriodExamples.{small-passes, small-image, small-large, small-count, small-cases}
+use Rattle.tables.proofs.SmallTables.{small-passes, small-image, small-large, small-count, small-cases}
 use Rattle.map_theory.proofs.Isomorphisms.{table-below}
 use Rattle.map_theory.proofs.Occurring.{row-lengths}
 use Rattle.tables.proofs.Tables.{checked-table}
 use Rattle.period_theory.specs.Multiples.{lcmFrom}
-use Rattle.period_theory.specs.LeastPeriod.{LeastPeriod}
-use Rattle.period_theory.proofs.CyclePeriods.{back-further, period-unique}
+use Rattle.period_theory.specs.LeastPeriod.{Settled, BringsBackAfter, LeastPeriod}
+use Rattle.period_theory.proofs.CyclePeriods.{back-further, further-back, period-unique}
 use Rattle.period_theory.proofs.TriedPeriods.{period-is-lcm, period-least, period-occurring}
 use Rattle.period_theory.proofs.CodePeriods.{code-period}
 use Rattle.period_theory.proofs.LandauBound.{period-below}
@@ -97,9 +97,13 @@ module _ (f : List ℕ) {p : ℕ} (e : PeriodAnswer f ≡ length-is p) where
   pub told-least : LeastPeriod (length f) (image f) p
   told-least = rw (told .is) (period-least (length f) (image f) inside)
 
-  -- each point that is, "once every point is on a cycle"
-  pub told-further : (x : ℕ) → x < length f → iterate (image f) p (iterate (image f) (length f) x) ≡ iterate (image f) (length f) x
-  told-further = back-further (length f) (image f) inside p (told-least .brings-back)
+  -- the least that brings each point back "once every point is on a cycle", whenever that is; it is after `length f` steps at the latest, `settled-from`
+  pub told-further : (k : ℕ) → Settled (length f) (image f) k
+      → BringsBackAfter (length f) (image f) k p × ((q : ℕ) → 1 ≤ q → BringsBackAfter (length f) (image f) k q → p ≤ q)
+  told-further k s = (
+    back-further (length f) (image f) inside k p s (told-least .brings-back),
+    λ q h b. told-least .least q h (further-back (length f) (image f) inside k q b),
+  )
 
   -- and the least common multiple of the cycle lengths
   pub told-lcm : p ≡ lcmFrom 1 (cycleLengths (length f) (image f))

@@ -2,18 +2,13 @@
 use mathlib.Core.Path.{_≡_, refl}
 use mathlib.Core.Bool.{true, false}
 use mathlib.Core.List.{List, [], _∷_, map}
-use Prim.Native.Nat.{ℕ, _≤_, _<_}
-use native.Mathlib.Omega.{arith}
-use lib.Dec.{ltb}
-use lib.ListN.{length, replicate}
-use borrow.Author.Tests.{lt-ltb, le-ltb, ltb-true, ltb-false}
-use Rattle.lists.proofs.Tests.{by-test}
-use Rattle.patterns.specs.declared.Refusal.the-variants.{Count, Image, TooManyPoints}
-use Rattle.patterns.specs.Table.{image, isTable}
-use Rattle.patterns.specs.Reading.{done, fault}
+use Prim.Native.Nat.{ℕ}
+use lib.ListN.{replicate}
+use Rattle.patterns.specs.Table.{image}
+use Rattle.patterns.specs.Reading.{done}
 use Rattle.patterns.specs.Replies.{length-is, refused}
 use Rattle.patterns.specs.Entry.{answer}
-use Rattle.patterns.specs.Period.{bringsBack, checkedSmall, periodOf}
+use Rattle.patterns.specs.Period.{bringsBack, periodOf}
 
 -- cycles of 2 and 3
 abbrev two-and-three : List ℕ
@@ -56,39 +51,3 @@ pub period-refusals :
     × (answer (periodOf two-and-three) length-is ≡ length-is 6)
 unfolding periodOf
 period-refusals = (refl, refl, refl, refl, refl, refl, refl, refl)
-
--- every table by its checks, in their order
-module _ (f : List ℕ) where
-  pub small-passes : length f ≤ 120 → isTable f ≡ true → checkedSmall f ≡ done f
-  unfolding checkedSmall
-  small-passes h t = rw (le-ltb 200 (length f) (omega arith), le-ltb 120 (length f) h, t)
-
-  pub small-image : length f ≤ 120 → isTable f ≡ false → checkedSmall f ≡ fault Image
-  unfolding checkedSmall
-  small-image h t = rw (le-ltb 200 (length f) (omega arith), le-ltb 120 (length f) h, t)
-
-  pub small-large : 120 < length f → length f ≤ 200 → checkedSmall f ≡ fault TooManyPoints
-  unfolding checkedSmall
-  small-large h k = rw (le-ltb 200 (length f) k, lt-ltb 120 (length f) h)
-
-  pub small-count : 200 < length f → checkedSmall f ≡ fault Count
-  unfolding checkedSmall
-  small-count h = rw (lt-ltb 200 (length f) h)
-
-  -- there are no others
-  pub small-cases : {P : Type 0}
-      → (200 < length f → checkedSmall f ≡ fault Count → P)
-      → (120 < length f → length f ≤ 200 → checkedSmall f ≡ fault TooManyPoints → P)
-      → (length f ≤ 120 → isTable f ≡ false → checkedSmall f ≡ fault Image → P)
-      → (length f ≤ 120 → isTable f ≡ true → checkedSmall f ≡ done f → P)
-      → P
-  small-cases count large image passes =
-      by-test (ltb 200 (length f))
-      (λ t. let h = ltb-true 200 (length f) t in count h (small-count h))
-      (λ t.
-      let h = ltb-false 200 (length f) t in
-      by-test (ltb 120 (length f))
-      (λ u. let k = ltb-true 120 (length f) u in large k h (small-large k h))
-      (λ u.
-      let k = ltb-false 120 (length f) u in
-      by-test (isTable f) (λ v. passes k v (small-passes k v)) (λ v. image k v (small-image k v))))

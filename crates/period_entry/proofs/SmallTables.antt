@@ -16,7 +16,7 @@ use Rattle.patterns.specs.Census.{occurring}
 use Rattle.patterns.specs.Reading.{done, fault}
 use Rattle.patterns.specs.Entry.{checkedTable}
 use Rattle.patterns.specs.Period.{period, checkedSmall}
-use Rattle.patterns.proofs.PeriodExamples.{small-large, small-count, small-cases}
+use Rattle.tables.proofs.SmallTables.{small-large, small-count, small-cases}
 use Rattle.map_theory.proofs.Isomorphisms.{table-below}
 use Rattle.map_theory.proofs.Occurring.{occurring-positive, occurring-total}
 use Rattle.period_theory.specs.Multiples.{lcmFrom}

@@ -1,7 +1,7 @@
 -- The steps that bring every point of a cycle back are the common multiples of the cycle lengths, so the period is their least common multiple.
 use mathlib.Core.Path.{_≡_, refl, ap, sym, _∙_}
 use mathlib.Core.Bool.{true}
-use Prim.Native.Nat.{ℕ, zero, suc, _+_, _-_, _*_, _/_, _%_, _<_, _∣_}
+use Prim.Native.Nat.{ℕ, zero, suc, _+_, _-_, _*_, _/_, _%_, _≤_, _<_, _∣_}
 use native.Mathlib.Nat.{zero-mul, suc-mul, mod-lt, div-add-mod', dvd-of-mod-eq-zero, div-mul-cancel}
 use native.Mathlib.Omega.{arith}
 use lib.ListN.{length}
@@ -11,7 +11,7 @@ use Rattle.map_theory.proofs.Orbits.{iterate-add, iterate-swap, orbit-length, i
 use Rattle.map_theory.proofs.Leaders.{Period, cycle-period, of-leaders, leader-onCycle, has-leader}
 use Rattle.map_theory.proofs.CensusTheory.{cycle-length-same, in-cycleLengths, of-cycleLengths, cycleLengths-positive}
 use Rattle.period_theory.specs.Multiples.{lcmFrom}
-use Rattle.period_theory.specs.LeastPeriod.{BringsBack, LeastPeriod}
+use Rattle.period_theory.specs.LeastPeriod.{BringsBack, Settled, BringsBackAfter, LeastPeriod}
 use Rattle.period_theory.proofs.CommonMultiples.{Common, lcms-positive, lcms-common, lcms-least}
 
 module _ (f : ℕ → ℕ) {x : ℕ} where
@@ -75,23 +75,24 @@ module _ (n : ℕ) (f : ℕ → ℕ) (inside : (x : ℕ) → x < n → f x < n) 
         least = λ q h b. lcms-least (cycleLengths n f) positives q h (back-common q b);
       }
 
-  onCycle-after : (x : ℕ) → x < n → onCycle n f (iterate f n x) ≡ true
-  onCycle-after x h =
+  -- n steps bring every point onto a cycle, and so do more
+  pub settled-from : (k : ℕ) → n ≤ k → Settled n f k
+  settled-from k i x h =
       let r = every-point-reaches-cycle n f inside x h in
-      let e : r .0 + (n - r .0) ≡ n = omega arith in
-      let s : iterate f n x ≡ iterate f (n - r .0) (iterate f (r .0) x) = ap (λ i. iterate f i x) (sym e) ∙ iterate-add f (r .0) (n - r .0) x in
-      rw s (onCycle-moves n f (n - r .0) (iterate f (r .0) x) (r .2))
+      let e : r .0 + (k - r .0) ≡ k = omega arith in
+      let s : iterate f k x ≡ iterate f (k - r .0) (iterate f (r .0) x) = ap (λ i. iterate f i x) (sym e) ∙ iterate-add f (r .0) (k - r .0) x in
+      rw s (onCycle-moves n f (k - r .0) (iterate f (r .0) x) (r .2))
 
-  -- "once every point is on a cycle, p further steps bring each point back" [document 02, paper 8]: n steps bring every point to a cycle
-  pub back-further : (q : ℕ) → BringsBack n f q → (x : ℕ) → x < n → iterate f q (iterate f n x) ≡ iterate f n x
-  back-further q b x h = b (iterate f n x) (iterate-inside n f inside n x h) (onCycle-after x h)
+  -- "once every point is on a cycle, p further steps bring each point back" [document 02, paper 8]: after however many steps that is
+  pub back-further : (k q : ℕ) → Settled n f k → BringsBack n f q → BringsBackAfter n f k q
+  back-further k q s b x h = b (iterate f k x) (iterate-inside n f inside k x h) (s x h)
 
-  -- every point of a cycle is n steps after some point
-  pub further-back : (q : ℕ) → ((x : ℕ) → x < n → iterate f q (iterate f n x) ≡ iterate f n x) → BringsBack n f q
-  further-back q b x h e =
-      let r = onCycle-back n f n x e in
+  -- every point of a cycle is k steps after some point
+  pub further-back : (k q : ℕ) → BringsBackAfter n f k q → BringsBack n f q
+  further-back k q b x h e =
+      let r = onCycle-back n f k x e in
       let y = iterate f (r .0) x in
-      let s : iterate f n y ≡ x = iterate-swap f n (r .0) x ∙ r .1 in
+      let s : iterate f k y ≡ x = iterate-swap f k (r .0) x ∙ r .1 in
       ap (iterate f q) (sym s) ∙ b y (iterate-inside n f inside (r .0) x h) ∙ s
 
 pub period-unique : {n : ℕ} {f : ℕ → ℕ} {p q : ℕ} → LeastPeriod n f p → LeastPeriod n f q → p ≡ q

@@ -1,7 +1,9 @@
--- The period of a map is the least common multiple of its cycle lengths, and what it is at most.
+-- The period of a map is the least common multiple of its cycle lengths; what it is at most, and that this is reached.
 pub mod CommonMultiples
 pub mod CyclePeriods
 pub mod TriedPeriods
 pub mod CodePeriods
 pub mod Factors
 pub mod LandauBound
+pub mod LandauReached
+pub mod GreatestPeriod

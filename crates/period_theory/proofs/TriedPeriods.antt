@@ -17,7 +17,7 @@ use Rattle.map_theory.proofs.Occurring.{of-occurring, in-occurring}
 use Rattle.period_theory.specs.Multiples.{lcmFrom}
 use Rattle.period_theory.specs.LeastPeriod.{BringsBack, LeastPeriod}
 use Rattle.period_theory.proofs.CommonMultiples.{lcms-same, lcms-power}
-use Rattle.period_theory.proofs.CyclePeriods.{period-lcm, back-further, further-back}
+use Rattle.period_theory.proofs.CyclePeriods.{period-lcm, settled-from, back-further, further-back}
 
 module _ (n : ℕ) (f : ℕ → ℕ) where
   -- the search from p on finds q, if q brings back and nothing from p on before q does
@@ -35,12 +35,12 @@ module _ (n : ℕ) (f : ℕ → ℕ) where
     unfolding bringsBack
     brings-back-true p b =
         each-true _ (range 0 n)
-        (λ x m. let r = of-range 0 n m in eq-eqb (iterate f p (iterate f n x)) (iterate f n x) (back-further n f inside p b x (omega arith)))
+        (λ x m. let r = of-range 0 n m in eq-eqb (iterate f p (iterate f n x)) (iterate f n x) (back-further n f inside n p (settled-from n f inside n (omega arith)) b x (omega arith)))
 
     pub true-brings-back : (p : ℕ) → bringsBack n f p ≡ true → BringsBack n f p
     unfolding bringsBack
     true-brings-back p e =
-        further-back n f inside p (λ x h. eqb-true (iterate f p (iterate f n x)) (iterate f n x) (each-member _ {l = range 0 n} e (in-range 0 n (omega arith) (omega arith))))
+        further-back n f inside n p (λ x h. eqb-true (iterate f p (iterate f n x)) (iterate f n x) (each-member _ {l = range 0 n} e (in-range 0 n (omega arith) (omega arith))))
 
     -- the search ends in time
     lcm-tried : lcmFrom 1 (cycleLengths n f) ≤ 1 + n ^ n

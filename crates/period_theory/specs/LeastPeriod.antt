@@ -9,7 +9,15 @@ module _ (n : ℕ) (f : ℕ → ℕ) where
   abbrev pub BringsBack : ℕ → Type 0
   BringsBack p = (x : ℕ) → x < n → onCycle n f x ≡ true → iterate f p x ≡ x
 
-  -- p is the least number of steps, at least one, that does
+  -- k steps bring every point onto a cycle
+  abbrev pub Settled : ℕ → Type 0
+  Settled k = (x : ℕ) → x < n → onCycle n f (iterate f k x) ≡ true
+
+  -- after k steps, p further steps bring each point back
+  abbrev pub BringsBackAfter : ℕ → ℕ → Type 0
+  BringsBackAfter k p = (x : ℕ) → x < n → iterate f p (iterate f k x) ≡ iterate f k x
+
+  -- p is the least number of steps, at least one, that brings every point of a cycle back
   pub record LeastPeriod (p : ℕ) : Type 0 where
     pub positive : 1 ≤ p
     pub brings-back : BringsBack p

@@ -1,2 +1,3 @@
--- Laws of the check of a table.
+-- Laws of the checks of a table.
 pub mod Tables
+pub mod SmallTables
