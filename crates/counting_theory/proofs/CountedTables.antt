@@ -1,50 +1,33 @@
 -- How many tables have a system: over all systems of n points n ^ n together, and for each system n! divided by its symmetries.
 use mathlib.Core.Path.{_≡_, refl, ap, sym, _∙_}
 use mathlib.Core.Bool.{true, cond}
-use mathlib.Core.List.{List, map}
-use Prim.Native.Nat.{ℕ, zero, suc, _*_, _/_, _^_, _≤_, _<_, compare}
+use mathlib.Core.List.{List}
+use Prim.Native.Nat.{ℕ, zero, suc, _*_, _/_, _^_, _≤_, _<_}
 use native.Mathlib.Omega.{arith}
 use native.Mathlib.Nat.{mul-one, mul-comm, mul-pos, lt-of-mul-lt-mul-left, lt-of-mul-lt-mul-right, le-mul-of-pos-right, div-eq-of-eq-mul-left}
-use lib.ListN.{length, length-map}
 use Rattle.lists.specs.Order.{same}
-use Rattle.lists.specs.Select.{total, range, place}
+use Rattle.lists.specs.Select.{total, range}
 use Rattle.lists.proofs.Tests.{_∈_}
-use Rattle.lists.proofs.Members.{Decides, lawful-decides, of-map, of-range, nodup-range}
+use Rattle.lists.proofs.Members.{Decides, lawful-decides, nodup-range}
 use Rattle.lists.proofs.Permute.{Perm, total-one, total-same, total-swap, length-keep}
-use Rattle.lists.proofs.Gathering.{map-same}
 use Rattle.lists.proofs.Places.{range-length}
 use Rattle.patterns.specs.System.{System, weight, canonical, codes, compareSystem}
-use Rattle.patterns.specs.Table.{image, isTable, systemOfTable}
+use Rattle.patterns.specs.Table.{image, systemOfTable}
 use Rattle.patterns.specs.MapOf.{mapOf}
 use Rattle.patterns.specs.Isomorphism.{Isomorphism, tables}
 use Rattle.patterns.specs.TableCount.{tablesWith}
 use Rattle.patterns.proofs.Trees.{compareSystem-lawful}
 use Rattle.system_theory.proofs.Codes.{codes-different, codes-complete}
 use Rattle.map_theory.proofs.MapOf.{length-mapOf, mapOf-table}
-use Rattle.map_theory.proofs.PointsOnce.{table-member, table-of-members, image-of-map, perm-below, perm-place, place-image, isomorphism-of-perm}
-use Rattle.map_theory.proofs.Isomorphisms.{table-below, table-read, isomorphism-perm}
+use Rattle.map_theory.proofs.Isomorphisms.{table-below, isomorphism-perm}
 use Rattle.map_theory.proofs.Theorems.{table-canonical, table-weight, canonical-system-unique}
 use Rattle.counting_theory.specs.Symmetries.{factorial, symmetries}
+use Rattle.counting_theory.specs.Renaming.{renamedTable}
 use Rattle.counting_theory.proofs.Exactly.{Exactly, exactly-unique, exactly-same, exactly-one, exactly-keep, exactly-pairs}
 use Rattle.counting_theory.proofs.Orderings.{exactly-orderings}
-use Rattle.counting_theory.proofs.TableLists.{length-tables, in-tables, of-tables, tables-nodup, copies-once}
+use Rattle.counting_theory.proofs.TableLists.{PointTable, length-tables, listed-table, table-listed, tables-nodup, copies-once}
+use Rattle.counting_theory.proofs.RenamedTables.{renamed-isomorphism, renamed-table, renamed-only}
 use Rattle.counting_theory.proofs.CountedIsomorphisms.{exactly-isomorphisms}
-
--- f is the table of a map of n points
-pub record PointTable (n : ℕ) (f : List ℕ) : Type 0 where
-  pub points : length f ≡ n
-  pub inside : isTable f ≡ true
-
--- a list of n points is such a table
-points-table : {n : ℕ} {f : List ℕ} → length f ≡ n → ((y : ℕ) → y ∈ f → y < n) → PointTable n f
-points-table {n} {f} l h = record { points = l; inside = table-of-members n f l h }
-
-listed-table : (n : ℕ) {f : List ℕ} → f ∈ tables n n → PointTable n f
-listed-table n m = let r = of-tables n n m in points-table (r .0) (r .1)
-
-table-listed : (n : ℕ) {f : List ℕ} → PointTable n f → f ∈ tables n n
-table-listed n {f} t =
-    in-tables n n f (t .points) (λ y m. omega (arith, t .points, table-member f (t .inside) m))
 
 systems-decide : Decides compareSystem
 systems-decide = lawful-decides compareSystem-lawful
@@ -84,42 +67,11 @@ record Named (n : ℕ) (m : List ℕ) (z : List ℕ × List ℕ) : Type 0 where
   pub table : PointTable n (z .0)
   pub isomorphism : Isomorphism n m (z .0) (z .1)
 
--- where the point y goes if the points of m are renamed by r
-renamedImage : List ℕ → List ℕ → ℕ → ℕ
-renamedImage m r y = image r (image m (place compare y r))
-
-renamedTable : ℕ → List ℕ → List ℕ → List ℕ
-renamedTable n m r = map (renamedImage m r) (range 0 n)
-
-module _ (n : ℕ) (m : List ℕ) (below : (x : ℕ) → x < n → image m x < n) (r : List ℕ) (p : Perm r (range 0 n)) where
-  renamed-isomorphism : Isomorphism n m (renamedTable n m r) r
-  unfolding renamedTable renamedImage
-  renamed-isomorphism =
-      isomorphism-of-perm p (λ x h.
-      ap (λ y. image r (image m y)) (sym (place-image p x h)) ∙ sym (image-of-map n (renamedImage m r) (image r x) (perm-below p x h)))
-
-  renamed-table : PointTable n (renamedTable n m r)
-  unfolding renamedTable renamedImage
-  renamed-table =
-      points-table (length-map (range 0 n) (renamedImage m r) ∙ range-length 0 n)
-      (λ y k.
-      let q = of-map (renamedImage m r) (range 0 n) k in
-      let b = of-range 0 n (q .1) in
-      rw (q .2) (perm-below p (image m (place compare (q .0) r)) (below (place compare (q .0) r) ((perm-place p (q .0) (omega arith)) .0))))
-
-  renamed-only : (f : List ℕ) → Named n m (f, r) → f ≡ renamedTable n m r
-  unfolding renamedTable renamedImage
-  renamed-only f z =
-      sym (table-read n f (z .table .points))
-      ∙ map-same (image f) (renamedImage m r) (range 0 n)
-      (λ y k.
-      let b = of-range 0 n k in
-      let q = perm-place p y (omega arith) in
-      ap (image f) (sym (q .1)) ∙ sym (z .isomorphism .follows (place compare y r) (q .0)))
-
-  -- r is an isomorphism to just one table
-  one-table : Exactly (λ f. Named n m (f, r)) 1
-  one-table = exactly-one (renamedTable n m r) (record { table = renamed-table; isomorphism = renamed-isomorphism }) renamed-only
+-- an order of the points is an isomorphism to just one table
+one-table : (n : ℕ) (m : List ℕ) → ((x : ℕ) → x < n → image m x < n) → (r : List ℕ) → Perm r (range 0 n) → Exactly (λ f. Named n m (f, r)) 1
+one-table n m below r p =
+    exactly-one (renamedTable n m r) (record { table = renamed-table m p below; isomorphism = renamed-isomorphism m p })
+    (λ f z. renamed-only m p f (z .table .points) (z .isomorphism))
 
 -- these pairs, counted by the isomorphism
 pairs-by-order : (n : ℕ) (m : List ℕ) → ((x : ℕ) → x < n → image m x < n) → Exactly (Named n m) (factorial n * 1)

@@ -2,6 +2,7 @@
 pub mod Exactly
 pub mod Orderings
 pub mod TableLists
+pub mod RenamedTables
 pub mod WholePlants
 pub mod StandingPlants
 pub mod CyclePlants

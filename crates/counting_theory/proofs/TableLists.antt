@@ -1,5 +1,6 @@
 -- The list of all tables: how long it is, and what stands in it, each table once.
 use mathlib.Core.Path.{_≡_, ap, sym, _∙_}
+use mathlib.Core.Bool.{true}
 use mathlib.Core.List.{List, [], _∷_, map, head-eq-of-cons-eq, tail-eq-of-cons-eq}
 use Prim.Native.Nat.{ℕ, zero, suc, _*_, _^_, _<_, Ordering}
 use native.Mathlib.Nat.{pow-zero, pow-succ'}
@@ -13,7 +14,9 @@ use Rattle.lists.proofs.Members.{NoDup, Decides, in-head, in-tail, in-list, in-
 use Rattle.lists.proofs.Places.{range-length}
 use Rattle.lists.proofs.Gathering.{keep-one}
 use Rattle.lists.proofs.EqualPieces.{pieces-length}
+use Rattle.patterns.specs.Table.{isTable}
 use Rattle.patterns.specs.Isomorphism.{tables}
+use Rattle.map_theory.proofs.PointsOnce.{table-member, table-of-members}
 use Rattle.counting_theory.specs.Symmetries.{copies}
 
 pub length-tables : (k n : ℕ) → length (tables k n) ≡ n ^ k
@@ -41,6 +44,21 @@ of-tables (suc k) n i =
       omega (arith, ap length (s .2), t .0),
       λ y j. either (in-cons-cases (in-list (s .2) j)) (λ e. omega arith) (t .1 y),
     )
+
+-- f is the table of a map of n points
+pub record PointTable (n : ℕ) (f : List ℕ) : Type 0 where
+  pub points : length f ≡ n
+  pub inside : isTable f ≡ true
+
+-- a list of n points is such a table
+pub points-table : {n : ℕ} {f : List ℕ} → length f ≡ n → ((y : ℕ) → y ∈ f → y < n) → PointTable n f
+points-table {n} {f} l h = record { points = l; inside = table-of-members n f l h }
+
+pub listed-table : (n : ℕ) {f : List ℕ} → f ∈ tables n n → PointTable n f
+listed-table n m = let r = of-tables n n m in points-table (r .0) (r .1)
+
+pub table-listed : (n : ℕ) {f : List ℕ} → PointTable n f → f ∈ tables n n
+table-listed n {f} t = in-tables n n f (t .points) (λ y m. omega (arith, t .points, table-member f (t .inside) m))
 
 pub tables-nodup : (k n : ℕ) → NoDup (tables k n)
 tables-nodup zero n = nodup-single []

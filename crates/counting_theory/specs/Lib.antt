@@ -1,2 +1,3 @@
--- Symmetries of trees, components and systems.
+-- Symmetries of trees, components and systems, and renamed tables.
 pub mod Symmetries
+pub mod Renaming
