@@ -2,12 +2,12 @@
 use mathlib.Core.Path.{_≡_, ap, ap₂, sym, _∙_}
 use mathlib.Core.List.{List, [], _∷_, map}
 use mathlib.Core.Bool.{true}
-use Prim.Native.Nat.{ℕ, compare, Ordering·lt}
+use Prim.Native.Nat.{ℕ, compare, Ordering·lt, Ordering·eq}
 use native.Mathlib.Omega.{arith}
 use lib.Dec.{eqb}
 use Rattle.lists.specs.Order.{then, lex}
 use Rattle.lists.proofs.Tests.{_∈_, by-test}
-use Rattle.lists.proofs.Comparison.{Lawful, lt-asymmetric}
+use Rattle.lists.proofs.Comparison.{Lawful, opposite, lt-asymmetric}
 use Rattle.lists.proofs.Lex.{lex-lawful, lex-compare-lawful, lex-same, lex-map, lex-cons-lt, lex-cons-eq}
 use Rattle.lists.proofs.Permute.{total-map}
 use Rattle.lists.proofs.Members.{NoDup, of-map, in-gather, of-gather}
@@ -33,6 +33,13 @@ compareCodes-key S R =
 
 keys-lawful : Lawful (lex (lex compare))
 keys-lawful = lex-lawful lex-compare-lawful
+
+-- the comparison of a system with itself, and turned
+pub codes-self : (S : System) → compareCodes S S ≡ Ordering·eq
+codes-self S = compareCodes-key S S ∙ keys-lawful .self (codeKey S)
+
+pub codes-turned : (S R : System) → compareCodes R S ≡ opposite (compareCodes S R)
+codes-turned S R = compareCodes-key R S ∙ keys-lawful .turned (codeKey S) (codeKey R) ∙ ap opposite (sym (compareCodes-key S R))
 
 -- no system comes before one that comes before it
 pub codes-apart : (S R : System) → compareCodes S R ≡ Ordering·lt → compareCodes R S ≡ Ordering·lt → ⊥

@@ -1,0 +1,2 @@
+-- The order of all codes.
+pub mod ListOrder
