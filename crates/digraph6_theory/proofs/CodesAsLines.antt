@@ -5,15 +5,15 @@ use mathlib.Core.List.{List}
 use Prim.Native.Nat.{ℕ, _≤_}
 use native.Mathlib.Omega.{arith}
 use lib.ListN.{length}
-use Rattle.lists.proofs.Tests.{clash}
 use Rattle.patterns.specs.declared.Refusal.{Refusal}
 use Rattle.patterns.specs.System.{System, weight, canonical}
 use Rattle.patterns.specs.Written.{written}
-use Rattle.patterns.specs.Reading.{Result, done, fault, accepted}
+use Rattle.patterns.specs.Reading.{done, accepted}
 use Rattle.patterns.specs.Table.{isTable, systemOfTable}
 use Rattle.patterns.specs.MapOf.{mapOf}
 use Rattle.patterns.specs.Isomorphism.{Isomorphism}
 use Rattle.patterns.specs.Entry.{gives, outcome}
+use Rattle.patterns.proofs.Outcomes.{outcome-gives}
 use Rattle.map_theory.proofs.MapOf.{length-mapOf, mapOf-table}
 use Rattle.map_theory.proofs.Theorems.{system-of-map, table-canonical, table-weight, isomorphic-to-map-of-system}
 use Rattle.form_theory.proofs.Bounds.{allBelow}
@@ -23,19 +23,14 @@ use Rattle.digraph6_theory.specs.LineEntries.{lineOfCode, codeOfLine}
 use Rattle.digraph6_theory.proofs.Lines.{line-back}
 use Rattle.digraph6_theory.proofs.OneLine.{line-table}
 
--- a result is given only where there is something to make it of
-outcome-given : {A B : Type 0} (r : Result A) (g : A → List B) {l : List B} → outcome r (λ x. gives (g x)) ≡ gives l → (x : A) × (r ≡ done x) × (l ≡ g x)
-outcome-given (done x) g {l} e = let p : l ≡ g x = cc in (x, refl, p)
-outcome-given (fault c) g e = clash cc
-
 -- the line of a code that is accepted
 code-line : (b : List ℕ) (S : System) → accepted b ≡ done S → lineOfCode b ≡ gives (digraph6 (mapOf S))
 unfolding lineOfCode
 code-line b S e = ap (λ r. outcome r (λ S. gives (digraph6 (mapOf S)))) e
 
-line-given : (b : List ℕ) {l : List ℕ} → lineOfCode b ≡ gives l → (S : System) × (accepted b ≡ done S) × (l ≡ digraph6 (mapOf S))
+line-given : (b : List ℕ) {l : List ℕ} → lineOfCode b ≡ gives l → (S : System) × (accepted b ≡ done S) × (digraph6 (mapOf S) ≡ l)
 unfolding lineOfCode
-line-given b e = outcome-given (accepted b) (λ S. digraph6 (mapOf S)) e
+line-given b e = outcome-gives (accepted b) (λ S. digraph6 (mapOf S)) e
 
 -- the system of a table of at most 200 points has a written code
 abbrev Writable : System → Type 0
@@ -64,9 +59,9 @@ module _ (LineForm RowForm : Refusal) where
   line-code l f e = ap (λ r. outcome r (λ f. gives (written (systemOfTable f)))) e
 
   code-given : (l : List ℕ) {b : List ℕ} → codeOfLine LineForm RowForm l ≡ gives b
-      → (f : List ℕ) × (readLine LineForm RowForm l ≡ done f) × (b ≡ written (systemOfTable f))
+      → (f : List ℕ) × (readLine LineForm RowForm l ≡ done f) × (written (systemOfTable f) ≡ b)
   unfolding codeOfLine
-  code-given l e = outcome-given (readLine LineForm RowForm l) (λ f. written (systemOfTable f)) e
+  code-given l e = outcome-gives (readLine LineForm RowForm l) (λ f. written (systemOfTable f)) e
 
   -- a code taken out and read in is the same code
   pub code-out-in : (b : List ℕ) {l : List ℕ} → allBelow 256 b ≡ true → lineOfCode b ≡ gives l → codeOfLine LineForm RowForm l ≡ gives b
@@ -74,7 +69,7 @@ module _ (LineForm RowForm : Refusal) where
       let s = line-given b e in
       let c = accepted-is b (s .0) h (s .1) in
       let r = system-out-in (s .0) (c .1) (c .2) in
-      line-code l (mapOf (s .0)) (ap (readLine LineForm RowForm) (s .2) ∙ r .0) ∙ ap gives (ap written (r .1) ∙ sym (c .0))
+      line-code l (mapOf (s .0)) (ap (readLine LineForm RowForm) (sym (s .2)) ∙ r .0) ∙ ap gives (ap written (r .1) ∙ sym (c .0))
 
   -- the code b of the line l is taken out as the line of a map that a renaming takes to that of l
   pub record RenamedLine (l b : List ℕ) : Type 0 where
@@ -98,7 +93,7 @@ module _ (LineForm RowForm : Refusal) where
         first-map = f;
         read-in = r .1;
         line = digraph6 (mapOf (systemOfTable f));
-        taken-out = code-line b (systemOfTable f) (ap accepted (r .2) ∙ written-back (systemOfTable f) (w .0) (w .1));
+        taken-out = code-line b (systemOfTable f) (ap accepted (sym (r .2)) ∙ written-back (systemOfTable f) (w .0) (w .1));
         second-map = mapOf (systemOfTable f);
         read-again = g .0;
         renaming = g .1 .0;

@@ -1,22 +1,17 @@
 -- The two converters undo each other, and each keeps the system.
-use mathlib.Core.Path.{_≡_, refl, ap, sym, _∙_}
+use mathlib.Core.Path.{_≡_, ap, sym, _∙_}
 use mathlib.Core.Bool.{true}
 use mathlib.Core.List.{List}
 use Prim.Native.Nat.{ℕ}
-use Rattle.lists.proofs.Tests.{clash}
 use Rattle.patterns.specs.System.{System}
 use Rattle.patterns.specs.Written.{written}
-use Rattle.patterns.specs.Reading.{Result, done, fault, accepted}
-use Rattle.patterns.specs.Entry.{gives, outcome}
+use Rattle.patterns.specs.Reading.{done, accepted}
+use Rattle.patterns.specs.Entry.{gives}
+use Rattle.patterns.proofs.Outcomes.{outcome-gives}
 use Rattle.form_theory.proofs.Bounds.{allBelow}
 use Rattle.form_theory.proofs.WrittenBack.{written-back, accepted-is, accepted-canonical}
 use Rattle.group_theory.specs.GroupedForm.{groupedCode, groupedAccepted, groupedOf, expandedOf}
 use Rattle.group_theory.proofs.GroupedBack.{grouped-back, grouped-is, grouped-canonical}
-
--- where something is given, something was read
-outcome-gives : {A B : Type 0} (r : Result A) (f : A → List B) {l : List B} → outcome r (λ x. gives (f x)) ≡ gives l → (x : A) × (r ≡ done x) × (f x ≡ l)
-outcome-gives (done x) f {l} e = let p : f x ≡ l = cc in (x, refl, p)
-outcome-gives (fault c) f e = clash cc
 
 -- a system of which one form is read is read from the other form, as it is written
 pub grouped-keeps : (b d : List ℕ) → groupedOf b ≡ gives d → (S : System) × (accepted b ≡ done S) × (groupedAccepted d ≡ done S)

@@ -19,3 +19,4 @@ pub mod Reversed
 pub mod Neighbours
 pub mod Filled
 pub mod Necklace
+pub mod Dealt

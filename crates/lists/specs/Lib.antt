@@ -4,3 +4,4 @@ pub mod Sort
 pub mod Select
 pub mod Members
 pub mod Blocks
+pub mod Dealt

@@ -43,6 +43,11 @@ pub by-result : {A P : Type 0} (o : Result A) → ((c : Refusal) → o ≡ fault
 by-result (done x) f g = g x refl
 by-result (fault c) f g = f c refl
 
+-- a result is given only of what was found
+pub outcome-gives : {A B : Type 0} (r : Result A) (f : A → List B) {l : List B} → outcome r (λ x. gives (f x)) ≡ gives l → (x : A) × (r ≡ done x) × (f x ≡ l)
+outcome-gives (done x) f {l} e = let p : f x ≡ l = cc in (x, refl, p)
+outcome-gives (fault c) f e = clash cc
+
 -- the reply of an entry that goes on with what was found, where that is a refusal
 pub outcome-refused : {A B : Type 0} {o : Result A} (f : A → Outcome B) (before : List B) (c : Refusal) → o ≡ fault c
     → Replied (outcome o f) before (refused (numberOf c)) before
