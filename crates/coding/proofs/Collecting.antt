@@ -18,7 +18,7 @@ use Rattle.patterns.specs.Table.{image, onCycle, leadsCycle, systemOfTable}
 use Rattle.patterns.specs.MapOf.{mapOf}
 use Rattle.patterns.specs.Isomorphism.{Isomorphism}
 use Rattle.patterns.proofs.Trees.{length-flat}
-use Rattle.patterns.proofs.Rotations.{Rotated, rotated-perm, valid-nonempty}
+use Rattle.patterns.proofs.Rotations.{Rotated, rotated-perm, points-positive}
 use Rattle.written.proofs.Placing.{placed-all}
 use Rattle.map_theory.specs.Plants.{Plant, shape, root, labels, shapes, compareShapes, plantsAlong, joined}
 use Rattle.links.specs.Links.{Links}
@@ -28,7 +28,7 @@ use Rattle.arrangement.specs.Arrangement.{InsertAsked, ComponentInserted}
 use Rattle.coding.specs.Systems.{SystemAsked, SystemWritten}
 use Rattle.map_theory.proofs.Pictures.{Arrows, allLabels, Picture}
 use Rattle.map_theory.proofs.Leaders.{leads-onCycle}
-use Rattle.map_theory.proofs.SortedCanonical.{sort-generated, sorted-canonical, nonempty-points}
+use Rattle.map_theory.proofs.SortedCanonical.{sort-generated, sorted-canonical}
 use Rattle.map_theory.proofs.Labelled.{picture-isomorphism}
 use Rattle.map_theory.proofs.Shown.{length-labels, system-shown}
 use Rattle.arrangement.proofs.Planting.{planted-none, planted-then, planted-trees, planted-labels}
@@ -39,7 +39,7 @@ use Rattle.map_theory.proofs.FromLeaders.{pointsFrom, from-none, from-skip, fro
 valid-count : (S : System) → each validComponent S ≡ true → length S ≤ weight S
 valid-count [] v = omega arith
 valid-count (c ∷ S) v =
-    omega (arith, nonempty-points c (valid-nonempty c (each-head validComponent c S v)), valid-count S (each-tail validComponent c S v))
+    omega (arith, points-positive c (each-head validComponent c S v), valid-count S (each-tail validComponent c S v))
 
 abbrev sorted : List (List Plant) → List (List Plant)
 sorted made = sort compareShapes made
@@ -185,7 +185,7 @@ module _ {f marks d e : List ℕ} {x end m : ℕ} {sizes₀ sizes trees labelled
 
       next-bound : (end < next) × (next ≤ length f)
       next-bound = (
-        omega (arith, w .planted .ends, nonempty-points (map shape (w .plants)) (valid-nonempty (map shape (w .plants)) (w .valid))),
+        omega (arith, w .planted .ends, points-positive (map shape (w .plants)) (w .valid)),
         omega (arith, w .planted .ends, turned-points, room),
       )
 

@@ -1,5 +1,5 @@
 -- Components one after another, read up to a place, and what the lent memory then holds.
-use mathlib.Core.Path.{_≡_, refl, ap, ap₂, sym, _∙_}
+use mathlib.Core.Path.{_≡_, refl, ap, sym, _∙_}
 use mathlib.Core.Bool.{_||_}
 use mathlib.Core.List.{List, [], _∷_, _++_, map, append-nil, append-assoc}
 use Prim.Native.Nat.{ℕ, suc, _+_, _-_, _≤_, _<_}
@@ -9,26 +9,26 @@ use native.Mathlib.Omega.{arith}
 use lib.Dec.{ltb, eqb}
 use lib.ListN.{length, take, drop, getD, set, length-append, length-drop, length-set}
 use lib.Seq.{drop-drop, take-at, take-suc-set, length-take-le}
-use borrow.Author.Tests.{eq-eqb, ne-eqb, eqb-false}
+use borrow.Author.Tests.{eq-eqb, ne-eqb}
 use Rattle.lists.specs.Select.{gather}
-use Rattle.lists.proofs.Tests.{by-test, choose-case, clash}
+use Rattle.lists.proofs.Tests.{by-test, clash}
 use Rattle.lists.proofs.Members.{gather-append}
 use Rattle.lists.proofs.Permute.{total-append}
 use Rattle.patterns.specs.declared.Refusal.{Refusal}
 use Rattle.patterns.specs.declared.Refusal.the-variants.{Sizes}
 use Rattle.patterns.specs.Component.{Component, points, flat}
 use Rattle.patterns.specs.System.{System, weight}
-use Rattle.patterns.specs.Written.{componentNumbers}
-use Rattle.patterns.specs.Reading.{Result, done, fault, andThen, mapped, readTrees, readComponents}
+use Rattle.patterns.specs.Reading.{Result, done, fault, andThen, mapped, readComponents}
 use Rattle.patterns.proofs.Trees.{length-flat}
 use Rattle.written.specs.Putting.{placed}
 use Rattle.written.proofs.Placing.{placed-length}
 use Rattle.tree_reading.specs.declared.Read.{Read}
 use Rattle.tree_reading.specs.declared.Read.the-variants.{Past, Refused}
-use Rattle.tree_reading.specs.Walking.{walkedAll, readComponent}
+use Rattle.form_theory.specs.ReadComponent.{readComponent}
+use Rattle.tree_reading.specs.Walking.{walkedAll}
 use Rattle.component_reading.specs.ReadComponents.{MemoryRoom, ReadInto}
-use Rattle.form_theory.proofs.Results.{Good, good-weaken, good-done, or-false, mapped-none, mapped-more}
-use Rattle.form_theory.proofs.ReadFrom.{TreesOf, trees-good}
+use Rattle.form_theory.proofs.Results.{good-done, mapped-none, mapped-more}
+use Rattle.form_theory.proofs.ReadFrom.{ComponentOf, component-good}
 use Rattle.tree_reading.proofs.Narrowing.{flat-small}
 
 -- m + 1 components: one, and then m
@@ -37,21 +37,6 @@ pub components-next : (m left : ℕ) (s : List ℕ)
 unfolding readComponents readComponent
 components-next m left [] = refl
 components-next m left (k ∷ s) = by-test (eqb k 0 || ltb left k) (λ e. rw e) (λ e. rw e)
-
--- One component.
-
-abbrev pub ComponentOf : ℕ → List ℕ → Component → Type 0
-ComponentOf left s c = (s ≡ componentNumbers c ++ drop (suc (points c)) s) × (0 < length c) × (points c ≤ left)
-
-pub component-good : (left : ℕ) (s : List ℕ) → Good (ComponentOf left s) (readComponent left s)
-unfolding readComponent
-component-good left [] = tt
-component-good left (k ∷ s) =
-    choose-case (Good (ComponentOf left (k ∷ s))) (eqb k 0 || ltb left k) (λ e. tt) (λ e.
-    let o = or-false (eqb k 0) (ltb left k) e in
-    let p = eqb-false k 0 (o .0) in
-    good-weaken (TreesOf k left s) (ComponentOf left (k ∷ s)) (readTrees k left s) (trees-good k left s)
-    (λ c q. (ap₂ _∷_ (sym (q .1)) (q .0), omega (arith, q .1), q .2)))
 
 -- the component c was read from place `next` to place `end`
 pub record ComponentAt (s : List ℕ) (next rest end : ℕ) (c : Component) : Type 0 where

@@ -2,7 +2,7 @@
 use mathlib.Core.Path.{_≡_, refl, ap, ap₂, sym, _∙_}
 use mathlib.Core.Bool.{_||_}
 use mathlib.Core.List.{List, [], _∷_, _++_, append-assoc}
-use Prim.Native.Nat.{ℕ, zero, suc, _+_, _-_, _≤_}
+use Prim.Native.Nat.{ℕ, zero, suc, _+_, _-_, _≤_, _<_}
 use native.Mathlib.Omega.{arith}
 use lib.Dec.{ltb, eqb}
 use lib.ListN.{length, drop}
@@ -16,13 +16,14 @@ use Rattle.patterns.specs.System.{System, weight}
 use Rattle.patterns.specs.Written.{componentNumbers}
 use Rattle.patterns.specs.Reading.{done, readTree, readBranches, readTrees, readComponents}
 use Rattle.patterns.proofs.Trees.{code-branches, branches-graft, size-graft}
-use Rattle.form_theory.proofs.Results.{Good, good-then, good-mapped, good-done, or-false}
+use Rattle.form_theory.specs.ReadComponent.{readComponent}
+use Rattle.form_theory.proofs.Results.{Good, good-then, good-mapped, good-weaken, good-done, or-false}
 
 -- two stretches, one after the other
 joined : (a b s : List ℕ) (m n : ℕ) → s ≡ a ++ drop m s → drop m s ≡ b ++ drop n (drop m s) → s ≡ (a ++ b) ++ drop (m + n) s
 joined a b s m n p q = p ∙ ap (a ++_) (q ∙ ap (b ++_) (drop-drop n m s)) ∙ sym (append-assoc a b (drop (m + n) s))
 
--- what a tree, branches, k trees or m components read from s have in common with s
+-- what a tree, branches, k trees, a component or m components read from s have in common with s
 abbrev pub TreeOf : ℕ → List ℕ → Tree → Type 0
 TreeOf limit s t = (s ≡ code t ++ drop (size t) s) × (size t ≤ limit)
 
@@ -31,6 +32,9 @@ BranchesOf left s bs = (s ≡ gather code bs ++ drop (total size bs) s) × (tota
 
 abbrev pub TreesOf : ℕ → ℕ → List ℕ → Component → Type 0
 TreesOf k left s c = (s ≡ flat c ++ drop (points c) s) × (length c ≡ k) × (points c ≤ left)
+
+abbrev pub ComponentOf : ℕ → List ℕ → Component → Type 0
+ComponentOf left s c = (s ≡ componentNumbers c ++ drop (suc (points c)) s) × (0 < length c) × (points c ≤ left)
 
 abbrev pub ComponentsOf : ℕ → ℕ → List ℕ → System → Type 0
 ComponentsOf m left s S = (s ≡ gather componentNumbers S ++ drop (length S + weight S) s) × (length S ≡ m) × (weight S ≡ left)
@@ -69,6 +73,16 @@ trees-good (suc k) left s =
     good-mapped (TreesOf k (left - size t) (drop (size t) s)) (TreesOf (suc k) left s) (readTrees k (left - size t) (drop (size t) s)) (t ∷_)
     (trees-good k (left - size t) (drop (size t) s)) (λ c r.
     (joined (code t) (flat c) s (size t) (points c) (q .0) (r .0), ap suc (r .1), omega arith)))
+
+pub component-good : (left : ℕ) (s : List ℕ) → Good (ComponentOf left s) (readComponent left s)
+unfolding readComponent
+component-good left [] = tt
+component-good left (k ∷ s) =
+    choose-case (Good (ComponentOf left (k ∷ s))) (eqb k 0 || ltb left k) (λ e. tt) (λ e.
+    let o = or-false (eqb k 0) (ltb left k) e in
+    let p = eqb-false k 0 (o .0) in
+    good-weaken (TreesOf k left s) (ComponentOf left (k ∷ s)) (readTrees k left s) (trees-good k left s)
+    (λ c q. (ap₂ _∷_ (sym (q .1)) (q .0), omega (arith, q .1), q .2)))
 
 pub components-good : (m left : ℕ) (s : List ℕ) → Good (ComponentsOf m left s) (readComponents m left s)
 unfolding readComponents

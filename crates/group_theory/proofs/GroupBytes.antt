@@ -23,7 +23,7 @@ use Rattle.group_theory.specs.Groups.{Group, expand, groups, rising}
 use Rattle.group_theory.specs.GroupedForm.{groupNumbers, groupedNumbers, groupedCode}
 use Rattle.group_theory.proofs.Groups.{counted, counted-head, counted-tail, expand-groups, groups-counted}
 use Rattle.group_theory.proofs.RisingGroups.{rising-parts, canonical-rises}
-use Rattle.group_theory.proofs.GroupWeights.{weight-expand, withTrees, trees-head, trees-tail, rising-trees, trees-positive, copies-within, component-within, groups-points}
+use Rattle.group_theory.proofs.GroupWeights.{weight-expand, withTrees, trees-head, trees-tail, rising-trees, nonempty-points, copies-within, component-within, groups-points}
 
 -- the one component of one point
 one-point : (c : Component) → points c ≡ 1 → c ≡ point ∷ []
@@ -44,7 +44,7 @@ group-bytes g h e =
     let within = component-within g h in
     by-test (leb 2 (points c))
     (λ t. omega (arith, leb-true 2 (points c) t, bytes-length (groupNumbers g), length-flat c))
-    (λ t. let one : points c ≡ 1 = omega (arith, leb-false 2 (points c) t, trees-positive c e) in omega (arith, point-bytes (g .copies) c one))
+    (λ t. let one : points c ≡ 1 = omega (arith, leb-false 2 (points c) t, nonempty-points c e) in omega (arith, point-bytes (g .copies) c one))
 
 groups-bytes : (G : List Group) → counted G ≡ true → withTrees G ≡ true → length (bytes (gather groupNumbers G)) ≤ 4 * weight (expand G)
 groups-bytes [] h e = omega arith

@@ -41,12 +41,12 @@ rising-trees p (g ∷ G) e =
     let r = rising-parts p g G e in
     each-cons (λ h. nonempty (h .component)) {x = g} G (valid-nonempty (g .component) (r .0)) (rising-trees (g .component) G (r .2))
 
-pub trees-positive : (c : Component) → nonempty c ≡ true → 0 < points c
-trees-positive c e = omega (arith, nonempty-length c e, trees-points c)
+pub nonempty-points : (c : Component) → nonempty c ≡ true → 0 < points c
+nonempty-points c e = omega (arith, nonempty-length c e, trees-points c)
 
 -- a group has at least as many points as copies, and as its component
 pub copies-within : (g : Group) → nonempty (g .component) ≡ true → g .copies ≤ g .copies * points (g .component)
-copies-within g e = le-mul-of-pos-right (g .copies) (trees-positive (g .component) e)
+copies-within g e = le-mul-of-pos-right (g .copies) (nonempty-points (g .component) e)
 
 pub component-within : (g : Group) → 0 < g .copies → points (g .component) ≤ g .copies * points (g .component)
 component-within g h = omega (arith, le-mul-of-pos-right (points (g .component)) h, mul-comm (points (g .component)) (g .copies))

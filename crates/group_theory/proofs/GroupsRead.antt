@@ -1,5 +1,5 @@
 -- Reading groups: their numbers are read as the groups that they were, and whatever is read has exactly those numbers.
-use mathlib.Core.Path.{_≡_, refl, ap, ap₂, sym, _∙_}
+use mathlib.Core.Path.{_≡_, refl, ap, sym, _∙_}
 use mathlib.Core.Bool.{true, _||_}
 use mathlib.Core.List.{List, [], _∷_, _++_, append-assoc}
 use Prim.Native.Nat.{ℕ, zero, suc, _+_, _-_, _*_, _/_, _≤_, _<_}
@@ -14,13 +14,14 @@ use Rattle.lists.proofs.Tests.{choose-case}
 use Rattle.patterns.specs.Component.{Component, points, flat, nonempty}
 use Rattle.patterns.specs.System.{weight}
 use Rattle.patterns.specs.Written.{componentNumbers}
-use Rattle.patterns.specs.Reading.{done, readTrees}
+use Rattle.patterns.specs.Reading.{done}
 use Rattle.patterns.proofs.Trees.{length-flat}
-use Rattle.form_theory.proofs.Results.{Good, good-weaken, good-then, good-mapped, or-false}
-use Rattle.form_theory.proofs.ReadFrom.{TreesOf, trees-good}
+use Rattle.form_theory.specs.ReadComponent.{readComponent}
+use Rattle.form_theory.proofs.Results.{Good, good-then, good-mapped, or-false}
+use Rattle.form_theory.proofs.ReadFrom.{ComponentOf, component-good}
 use Rattle.form_theory.proofs.Readback.{trees-points, nonempty-length, read-trees}
 use Rattle.group_theory.specs.Groups.{Group, copiesOf, expand}
-use Rattle.group_theory.specs.GroupedForm.{groupNumbers, groupsLength, readComponent, readGroups}
+use Rattle.group_theory.specs.GroupedForm.{groupNumbers, groupsLength, readGroups}
 use Rattle.group_theory.proofs.Groups.{counted, counted-head, counted-tail, counted-cons}
 use Rattle.group_theory.proofs.GroupWeights.{weight-expand, withTrees, trees-head, trees-tail, copies-within}
 
@@ -68,19 +69,9 @@ pub length-groups : (G : List Group) → length (gather groupNumbers G) ≡ grou
 length-groups [] = refl
 length-groups (g ∷ G) = omega (arith, length-append (groupNumbers g) (gather groupNumbers G), length-flat (g .component), length-groups G)
 
--- what a component or m groups read from s have in common with s
-abbrev ComponentOf : ℕ → List ℕ → Component → Type 0
-ComponentOf limit s c = (s ≡ componentNumbers c ++ drop (suc (points c)) s) × (points c ≤ limit)
-
+-- what m groups read from s have in common with s
 abbrev pub GroupsOf : ℕ → ℕ → List ℕ → List Group → Type 0
 GroupsOf m left s G = (s ≡ gather groupNumbers G ++ drop (groupsLength G) s) × (length G ≡ m) × (weight (expand G) ≡ left) × (counted G ≡ true)
-
-component-good : (limit : ℕ) (s : List ℕ) → Good (ComponentOf limit s) (readComponent limit s)
-unfolding readComponent
-component-good limit [] = tt
-component-good limit (k ∷ s) =
-    choose-case (Good (ComponentOf limit (k ∷ s))) (eqb k 0 || ltb limit k) (λ e. tt) (λ e.
-    good-weaken (TreesOf k limit s) (ComponentOf limit (k ∷ s)) (readTrees k limit s) (trees-good k limit s) (λ c q. (ap₂ _∷_ (sym (q .1)) (q .0), q .2)))
 
 -- a group and groups after it, read from s
 group-before : (q : ℕ) (c : Component) (m left : ℕ) (s : List ℕ) (G : List Group) → 0 < q → ComponentOf (left / q) s c
@@ -89,7 +80,7 @@ group-before q c m left s G h r t =
     let a = componentNumbers c in
     let b = gather groupNumbers G in
     let p = suc (points c) in
-    let within : q * points c ≤ left = omega (arith, mul-le-mul-left q (r .1), mul-div-le left q) in
+    let within : q * points c ≤ left = omega (arith, mul-le-mul-left q (r .2), mul-div-le left q) in
     let n : groupsLength (copiesOf q c ∷ G) ≡ suc (p + groupsLength G) = omega arith in (
       rw n (ap (q ∷_) (r .0 ∙ ap (a ++_) (t .0 ∙ ap (b ++_) (drop-drop (groupsLength G) p s)) ∙ sym (append-assoc a b (drop (p + groupsLength G) s)))),
       ap suc (t .1),

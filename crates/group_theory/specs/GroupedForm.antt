@@ -7,11 +7,12 @@ use lib.Dec.{ltb, eqb}
 use lib.ListN.{length, drop}
 use Rattle.lists.specs.Select.{gather, total}
 use Rattle.patterns.specs.declared.Refusal.the-variants.{Count, Truncated, Sizes, NotCanonical, Trailing}
-use Rattle.patterns.specs.Component.{Component, points}
+use Rattle.patterns.specs.Component.{points}
 use Rattle.patterns.specs.System.{System, weight}
 use Rattle.patterns.specs.Written.{componentNumbers, bytes, written}
-use Rattle.patterns.specs.Reading.{Result, done, fault, andThen, mapped, cut, readTrees, accepted}
+use Rattle.patterns.specs.Reading.{Result, done, fault, andThen, mapped, cut, accepted}
 use Rattle.patterns.specs.Entry.{Outcome, gives, outcome}
+use Rattle.form_theory.specs.ReadComponent.{readComponent}
 use Rattle.group_theory.specs.Groups.{Group, copiesOf, expand, groups, rising}
 
 -- the number of copies, then the component
@@ -26,14 +27,6 @@ groupedNumbers S = weight S ∷ length (groups S) ∷ gather groupNumbers (group
 unfoldable pub groupedCode : System → List ℕ
 unfolding groupedNumbers
 groupedCode S = bytes (groupedNumbers S)
-
--- the number k of trees and then the trees, within a limit of points
-unfoldable pub readComponent : ℕ → List ℕ → Result Component
-unfolding readTrees
-readComponent limit [] = fault Truncated
-readComponent limit (k ∷ s) =
-    let trees = readTrees k limit s in
-    cond (eqb k 0 || ltb limit k) (fault Sizes) trees
 
 -- m groups, from the points left of n, and no points left after the last. Copies are held against the points left; k and the trees along the cycle against the
 -- points left divided by the copies, rounded down: each point read takes as many from the points left as there are copies, and (left - q * x) / q is left / q - x.

@@ -2,9 +2,8 @@
 -- are a canonical system.
 use mathlib.Core.Path.{_≡_, refl, ap, sym, _∙_}
 use mathlib.Core.List.{List, [], _∷_, map}
-use mathlib.Core.Bool.{true, true≢false}
-use Prim.Native.Nat.{_<_, Ordering, compare}
-use native.Mathlib.Omega.{arith}
+use mathlib.Core.Bool.{true}
+use Prim.Native.Nat.{Ordering, compare}
 use lib.Dec.{isLe}
 use Rattle.lists.specs.Order.{then, atMost}
 use Rattle.lists.specs.Sort.{sort}
@@ -13,10 +12,9 @@ use Rattle.lists.proofs.Tests.{each-true, each-head, each-tail, each-member, tr
 use Rattle.lists.proofs.Comparison.{compare-lt}
 use Rattle.lists.proofs.Sorting.{Sorted, sorted-nil, sorted-cons, sorted-tail, sorted-head, sort-sorted, sort-map}
 use Rattle.lists.proofs.Members.{in-head, in-map}
-use Rattle.patterns.specs.Component.{Component, points, nonempty, validComponent}
+use Rattle.patterns.specs.Component.{Component, points, validComponent}
 use Rattle.patterns.specs.System.{System, generationPlace, compareGenerated, inOrder, canonical}
-use Rattle.patterns.proofs.Trees.{size-positive}
-use Rattle.patterns.proofs.Rotations.{valid-nonempty}
+use Rattle.patterns.proofs.Rotations.{points-positive}
 use Rattle.map_theory.proofs.Ordered.{key, compareKey, compareKey-lawful, compareGenerated-key}
 
 -- the image is sorted: so is the list, compared by its images
@@ -34,11 +32,6 @@ sort-generated S =
     sorted-of-map compareGenerated compareKey key compareGenerated-key (sort compareGenerated S)
     (rw (sort-map compareGenerated compareKey key S (λ c d i j. compareGenerated-key c d)) at (sort-sorted compareKey-lawful (map key S)))
 
--- a component that is not empty has a point
-pub nonempty-points : (c : Component) → nonempty c ≡ true → 0 < points c
-nonempty-points [] e = absurd (true≢false (sym e))
-nonempty-points (t ∷ c) e = omega (arith, size-positive t)
-
 sorted-inOrder : (p : Component) (S : System) → each validComponent S ≡ true → Sorted compareGenerated (p ∷ S) → inOrder p S ≡ true
 unfolding inOrder
 sorted-inOrder p [] v s = refl
@@ -53,6 +46,6 @@ sorted-canonical S v s =
     (sorted-cons
     (each-true (atMost compareGenerated []) S
     (λ c m.
-    let h = nonempty-points c (valid-nonempty c (each-member validComponent v m)) in
+    let h = points-positive c (each-member validComponent v m) in
     ap (λ o. isLe (then o (compare (generationPlace []) (generationPlace c)))) (compare-lt 0 (points c) h)))
     s)

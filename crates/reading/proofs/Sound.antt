@@ -12,11 +12,12 @@ use Rattle.lists.proofs.Tests.{choose-case, each-cons}
 use Rattle.patterns.specs.Component.{Component, points, nonempty}
 use Rattle.patterns.specs.System.{System, weight}
 use Rattle.patterns.specs.Reading.{Result, done, fault, andThen, cut, readComponents}
-use Rattle.tree_reading.specs.Walking.{readComponent}
+use Rattle.form_theory.specs.ReadComponent.{readComponent}
 use Rattle.reading.specs.Shape.{ended, shapeBody, shape, codeShape}
 use Rattle.form_theory.proofs.Results.{Good, good-then, good-mapped}
 use Rattle.form_theory.proofs.ReadFrom.{ComponentsOf, components-good}
-use Rattle.component_reading.proofs.ComponentsRead.{components-next, ComponentOf, component-good}
+use Rattle.component_reading.proofs.ComponentsRead.{components-next}
+use Rattle.form_theory.proofs.ReadFrom.{ComponentOf, component-good}
 
 some-tree : (c : Component) → 0 < length c → nonempty c ≡ true
 some-tree [] h = absurd (omega arith)

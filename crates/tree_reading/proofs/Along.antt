@@ -17,7 +17,8 @@ use Rattle.patterns.specs.Reading.{Result, done, fault, mapped, readTree, readT
 use Rattle.patterns.proofs.Trees.{points-append}
 use Rattle.tree_reading.specs.declared.Read.{Read}
 use Rattle.tree_reading.specs.declared.Read.the-variants.{Past, Refused}
-use Rattle.tree_reading.specs.Walking.{walked, walkedAll, readComponent}
+use Rattle.form_theory.specs.ReadComponent.{readComponent}
+use Rattle.tree_reading.specs.Walking.{walked, walkedAll}
 use Rattle.form_theory.proofs.Results.{mapped-none, mapped-more}
 use Rattle.form_theory.proofs.ReadFrom.{tree-read}
 

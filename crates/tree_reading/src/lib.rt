@@ -7,7 +7,8 @@ ghost use Prim.Native.Nat.{ℕ, _+_, _<_, _≤_};
 ghost use lib.ListN.{length, drop, getD};
 ghost use Rattle.patterns.specs.Reading.{readTree, readBranches, readTrees};
 ghost use Rattle.written.specs.Putting.{placed};
-ghost use Rattle.tree_reading.specs.Walking.{walked, walkedAll, readComponent};
+ghost use Rattle.form_theory.specs.ReadComponent.{readComponent};
+ghost use Rattle.tree_reading.specs.Walking.{walked, walkedAll};
 
 // The place after what was read, or the cause of a refusal.
 pub enum Read {
