@@ -21,7 +21,8 @@ use Rattle.patterns.specs.Replies.{part-is}
 use Rattle.patterns.specs.Entry.{Part, partIn, componentIn, componentOf, partAnswered, Shown}
 use Rattle.component_theory.proofs.RotationSymmetry.{rounds, symmetry-bounds}
 use Rattle.form_theory.proofs.Bounds.{allBelow}
-use Rattle.form_theory.proofs.Readback.{trees-points, canonical-nonempty}
+use Rattle.component_theory.proofs.Generation.{length-points}
+use Rattle.form_theory.proofs.Readback.{canonical-nonempty}
 use Rattle.form_theory.proofs.WrittenBack.{written-back, written-bytes, accepted-is, accepted-canonical}
 use Rattle.form_theory.proofs.Stretches.{component-stretch, component-ends}
 
@@ -94,7 +95,7 @@ pub turns-small : {b : List ℕ} {i : ℕ} {p : Part} → ComponentAt b i p → 
 turns-small {b} {i} s =
     let S = s .system in
     let c = getD S i [] in
-    omega (arith, component-turns s .at-most, trees-points c, member-total points (in-index S i [] (s .inside)), accepted-canonical b S (s .is) .1)
+    omega (arith, component-turns s .at-most, length-points c, member-total points (in-index S i [] (s .inside)), accepted-canonical b S (s .is) .1)
 
 -- The same of a reply: it tells this of the component at position i of the code's system.
 pub record ReaderTurns (b : List ℕ) (i turns : ℕ) : Type 0 where

@@ -19,6 +19,7 @@ use Rattle.form_theory.proofs.Results.{Good, good-weaken, good-then}
 use Rattle.form_theory.proofs.ReadFrom.{ComponentsOf, components-good}
 use Rattle.patterns.proofs.Trees.{size-positive, length-code, length-flat, below-branches, size-branches, graft-branches}
 use Rattle.patterns.proofs.Rotations.{valid-nonempty}
+use Rattle.component_theory.proofs.Generation.{length-points}
 use Rattle.component_theory.proofs.CanonicalComponents.{canonical-valid}
 
 total-branches : (t : Tree) → total size (branches t) ≡ size t - 1
@@ -67,19 +68,15 @@ read-trees (t ∷ c) left r h =
       read-trees c (left - size t) r (omega arith),
     )
 
--- no component has more trees than points, and no system of such components more components than points
-pub trees-points : (c : Component) → length c ≤ points c
-trees-points [] = omega arith
-trees-points (t ∷ c) = omega (arith, size-positive t, trees-points c)
-
 pub nonempty-length : {A : Type 0} (l : List A) → nonempty l ≡ true → 0 < length l
 nonempty-length [] e = absurd (true≢false (sym e))
 nonempty-length (x ∷ l) e = omega arith
 
+-- no system of components with trees has more components than points
 pub components-points : (S : System) → each nonempty S ≡ true → length S ≤ weight S
 components-points [] h = omega arith
 components-points (c ∷ S) h =
-    omega (arith, nonempty-length c (each-head nonempty c S h), trees-points c, components-points S (each-tail nonempty c S h))
+    omega (arith, nonempty-length c (each-head nonempty c S h), length-points c, components-points S (each-tail nonempty c S h))
 
 pub read-components : (S : System) (left : ℕ) (r : List ℕ) → each nonempty S ≡ true → weight S ≡ left
     → readComponents (length S) left (gather componentNumbers S ++ r) ≡ done S
@@ -87,7 +84,7 @@ unfolding readComponents
 read-components [] left r h k = rw (eq-eqb left 0 (sym k))
 read-components (c ∷ S) left r h k =
     let n = nonempty-length c (each-head nonempty c S h) in
-    let m = trees-points c in
+    let m = length-points c in
     let s = gather componentNumbers S ++ r in
     rw (
       append-assoc (flat c) (gather componentNumbers S) r,

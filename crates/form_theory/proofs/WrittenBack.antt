@@ -15,7 +15,8 @@ use Rattle.patterns.specs.Reading.{Result, done, fault, cut, readSystem, accept
 use Rattle.form_theory.proofs.Results.{Good, good-weaken, good-then, good-done}
 use Rattle.form_theory.proofs.Bounds.{allBelow, below-cons, below-append}
 use Rattle.form_theory.proofs.Numbers.{cut-bytes, cut-good, bytes-below, bytes-length}
-use Rattle.form_theory.proofs.Readback.{trees-points, components-points, canonical-nonempty, length-components, read-system, system-good}
+use Rattle.component_theory.proofs.Generation.{length-points}
+use Rattle.form_theory.proofs.Readback.{components-points, canonical-nonempty, length-components, read-system, system-good}
 use Rattle.patterns.proofs.Trees.{size-positive}
 
 -- the numbers of a tree, component or system are below any bound on its points
@@ -36,7 +37,7 @@ components-below : (k : ℕ) (S : System) → weight S < k → allBelow k (gathe
 components-below k [] h = refl
 components-below k (c ∷ S) h =
     below-append k (componentNumbers c) (gather componentNumbers S)
-    (below-cons k (length c) (flat c) (omega (arith, trees-points c)) (flat-below k c (omega arith))) (components-below k S (omega arith))
+    (below-cons k (length c) (flat c) (omega (arith, length-points c)) (flat-below k c (omega arith))) (components-below k S (omega arith))
 
 pub numbers-below : (k : ℕ) (S : System) → canonical S ≡ true → weight S < k → allBelow k (numbers S) ≡ true
 numbers-below k S c h =

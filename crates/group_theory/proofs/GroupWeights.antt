@@ -11,7 +11,8 @@ use Rattle.lists.proofs.Tests.{each-cons, each-head, each-tail}
 use Rattle.patterns.specs.Component.{Component, points, nonempty}
 use Rattle.patterns.specs.System.{System, weight}
 use Rattle.patterns.proofs.Rotations.{valid-nonempty}
-use Rattle.form_theory.proofs.Readback.{trees-points, nonempty-length}
+use Rattle.component_theory.proofs.Generation.{length-points}
+use Rattle.form_theory.proofs.Readback.{nonempty-length}
 use Rattle.group_theory.specs.Groups.{Group, expand, rising}
 use Rattle.group_theory.proofs.Groups.{counted, counted-head, counted-tail}
 use Rattle.group_theory.proofs.RisingGroups.{rising-parts}
@@ -42,7 +43,7 @@ rising-trees p (g ∷ G) e =
     each-cons (λ h. nonempty (h .component)) {x = g} G (valid-nonempty (g .component) (r .0)) (rising-trees (g .component) G (r .2))
 
 pub nonempty-points : (c : Component) → nonempty c ≡ true → 0 < points c
-nonempty-points c e = omega (arith, nonempty-length c e, trees-points c)
+nonempty-points c e = omega (arith, nonempty-length c e, length-points c)
 
 -- a group has at least as many points as copies, and as its component
 pub copies-within : (g : Group) → nonempty (g .component) ≡ true → g .copies ≤ g .copies * points (g .component)

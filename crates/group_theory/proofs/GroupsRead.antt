@@ -19,7 +19,8 @@ use Rattle.patterns.proofs.Trees.{length-flat}
 use Rattle.form_theory.specs.ReadComponent.{readComponent}
 use Rattle.form_theory.proofs.Results.{Good, good-then, good-mapped, or-false}
 use Rattle.form_theory.proofs.ReadFrom.{ComponentOf, component-good}
-use Rattle.form_theory.proofs.Readback.{trees-points, nonempty-length, read-trees}
+use Rattle.component_theory.proofs.Generation.{length-points}
+use Rattle.form_theory.proofs.Readback.{nonempty-length, read-trees}
 use Rattle.group_theory.specs.Groups.{Group, copiesOf, expand}
 use Rattle.group_theory.specs.GroupedForm.{groupNumbers, groupsLength, readGroups}
 use Rattle.group_theory.proofs.Groups.{counted, counted-head, counted-tail, counted-cons}
@@ -30,7 +31,7 @@ read-component : (c : Component) (limit : ℕ) (r : List ℕ) → nonempty c ≡
 unfolding readComponent
 read-component c limit r e h =
     let n = nonempty-length c e in
-    let m = trees-points c in
+    let m = length-points c in
     rw (ne-eqb (length c) 0 (λ z. omega arith), le-ltb limit (length c) (omega arith), read-trees c limit r h)
 
 -- points that go q times into the points left are no more than those divided by q

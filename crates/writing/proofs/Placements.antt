@@ -22,7 +22,8 @@ use Rattle.written.specs.Putting.{Placed}
 use Rattle.written.proofs.Placing.{placed-length, placed-start, placed-then, put-refused}
 use Rattle.form_theory.proofs.Bounds.{gather-within}
 use Rattle.form_theory.proofs.Numbers.{bytes-append}
-use Rattle.form_theory.proofs.Readback.{trees-points, components-points}
+use Rattle.component_theory.proofs.Generation.{length-points}
+use Rattle.form_theory.proofs.Readback.{components-points}
 use Rattle.form_theory.proofs.Stretches.{componentBytes, bytes-gather}
 use Rattle.form_theory.proofs.WrittenBack.{written-short}
 use Rattle.form_theory.proofs.Widths.{widths-next, widths-within}
@@ -89,7 +90,7 @@ module _ {s before : List ℕ} {at : ℕ} (w : ComponentRoom s before at) where
     pub number-fits : (k < 16384) × (at + length (writeNumber k) ≤ length before)
     number-fits =
         let c = w .held .trees in
-        (omega (arith, count-is, ap length (w .held .is), length-flat c, trees-points c, w .held .small), omega (arith, all-bytes, w .room))
+        (omega (arith, count-is, ap length (w .held .is), length-flat c, length-points c, w .held .small), omega (arith, all-bytes, w .room))
 
     module _ {m : ℕ} {mid : List ℕ} (p : Placed (writeNumber k) at before m mid) where
       -- room for the codes behind the number
