@@ -4,11 +4,12 @@
  * A map of n points, n at most 200, is a table of n bytes: byte i is the image of point i, points counted from 0. A code is the written code of a
  * pattern; 1,000 bytes hold every code.
  *
- * Replies. Every function but lethmuok_page answers one number, an int64_t, and lethmuok_page two of them; test a number for less than 0 before it becomes a size_t.
- * 0 or more is what the function's comment says. It is never more than 1,000, but for the bytes of a page, which are never more than 1,000,000, and for two numbers that
- * need more than 32 bits: what lethmuok_table_count answers is never more than 1,307,674,368,000, and what lethmuok_period answers never more than 5,354,228,880. From -1
- * to -99 it is a refusal, minus the number of its cause; lethmuok_page has it in both numbers. -100, -101 and -102 are answers too, and no refusals. A result fills the
- * first places of its buffer, and every other byte of every buffer is kept; with a negative reply all of them are.
+ * Replies. Every function answers one number, an int64_t, but for lethmuok_page and lethmuok_greatest_period, which answer two of them; test a number for less
+ * than 0 before it becomes a size_t. 0 or more is what the function's comment says. It is never more than 1,000, but for the bytes of a page, which are never
+ * more than 1,000,000, and for numbers that may need more than 32 bits: what lethmuok_table_count answers is never more than 1,307,674,368,000, and a period,
+ * by lethmuok_period or lethmuok_greatest_period, never more than 5,354,228,880. From -1 to -99 it is a refusal, minus the number of its cause; where there are
+ * two numbers it stands in both. -100, -101 and -102 are answers too, and no refusals. A result fills the first places of its buffer, and every other byte of
+ * every buffer is kept; with a negative reply all of them are.
  *
  * Buffers. Each is a pointer and a count of bytes, all of which must be there to be read, and in an output to be written.
  * - No pointer may be null, not even where the count is 0: for a table of no points, or to lend no room, pass the address of any object and the count 0.
@@ -38,19 +39,19 @@ enum {
     LETHMUOK_SIZES = -5,            /* the sizes in a code do not fit each other */
     LETHMUOK_NOT_CANONICAL = -6,    /* the sizes fit, but this is not the code of the pattern */
     LETHMUOK_TRAILING = -7,         /* there are numbers after the code */
-    LETHMUOK_ROOM = -8,             /* the output is shorter than the result */
+    LETHMUOK_ROOM = -8,             /* the output is shorter than the result; for lethmuok_greatest_period, than 1,000 bytes */
     LETHMUOK_POSITION = -9,         /* the code has no component at that position */
     LETHMUOK_WANTED = -10,          /* more than 1,000 codes are wanted */
     LETHMUOK_TOO_LARGE = -11,       /* the result has more than 200 points */
     LETHMUOK_UNCOUNTED = -12,       /* the code has more than 15 points, and its tables are not counted */
-    LETHMUOK_TOO_MANY_POINTS = -13, /* the table has more than 120 points, and its period is not told */
+    LETHMUOK_TOO_MANY_POINTS = -13, /* a count of points, or the length of a table, is above 120, and no period is told */
     LETHMUOK_LAST = -100,           /* no code follows in the list */
     LETHMUOK_NONE = -101,           /* there is no isomorphism */
     LETHMUOK_FIRST = -102           /* no code comes before in the list */
 };
 
 /* What always suffices: points of a map, bytes of a code, entries of a census. The most codes that may be wanted of a page, which LETHMUOK_MAX_WANTED times
- * LETHMUOK_MAX_CODE bytes always hold. The most points of a code whose tables are counted, and of a map whose period is told. */
+ * LETHMUOK_MAX_CODE bytes always hold. The most points of a code whose tables are counted, and of which a period is told: that of a map, or the greatest. */
 enum {
     LETHMUOK_MAX_POINTS = 200,
     LETHMUOK_MAX_CODE = 1000,
@@ -65,6 +66,12 @@ typedef struct {
     int64_t codes;
     int64_t bytes;
 } lethmuok_page_reply;
+
+/* The reply of lethmuok_greatest_period: the length of the code that it wrote, and the period of that code's maps. A refusal stands in both. */
+typedef struct {
+    int64_t length;
+    int64_t period;
+} lethmuok_greatest_reply;
 
 /* Whether these bytes are a code; answers its number of points. A code may be read again after each byte that is typed: where the answer is LETHMUOK_NUMBER_FORM it
  * stays so, whatever bytes follow. */
@@ -110,6 +117,11 @@ int64_t lethmuok_height(const uint8_t *table, size_t n);
  * point back. That is the least common multiple of the cycle lengths, 6 for cycles of 2 and 3, and 1 for no points; it is never more than 5,354,228,880. The papers call
  * it round length. LETHMUOK_COUNT comes first, then LETHMUOK_TOO_MANY_POINTS, then LETHMUOK_IMAGE. */
 int64_t lethmuok_period(const uint8_t *table, size_t n);
+
+/* Writes a code of n points with the greatest period, n at most LETHMUOK_MAX_PERIOD_POINTS, and tells that period: no map of n points has a greater one. It is
+ * 6 for 5 points, 12 for 7, 1 for none, and 5,354,228,880 for 120. Which code it is, where several have it, is left open. LETHMUOK_COUNT comes first, then
+ * LETHMUOK_TOO_MANY_POINTS, then LETHMUOK_ROOM, which is told of every output of fewer than LETHMUOK_MAX_CODE bytes, however short the code is. */
+lethmuok_greatest_reply lethmuok_greatest_period(size_t n, uint8_t *out, size_t out_len);
 
 /* Where the bytes of the component at a position, counted from 0, begin in a code; and where they end, which is the place after the last of them. */
 int64_t lethmuok_component_start(const uint8_t *code, size_t code_len, size_t position);

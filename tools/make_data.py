@@ -115,6 +115,11 @@ def period(table, length=None):
     return case(PERIOD, 0, stretch(table, length), [0, 0], model.period(repeated(table, length)))
 
 
+def greatest_period(n, room=WIDE):
+    kind, value = model.greatest_period(n, room)
+    return [n, room, KINDS[kind], value]
+
+
 def census(table, room=19):
     return case(CENSUS, room, stretch(table), [0, 0], model.census(table, room))
 
@@ -1000,6 +1005,59 @@ def periods():
     return [list(line) for line in dict.fromkeys(map(tuple, lines))]
 
 
+# ---- greatest periods
+
+
+def length_lists(points, least=1):
+    """Every nondecreasing list of cycle lengths of so many points together, none below the least."""
+    if points == 0:
+        yield []
+    for length in range(least, points + 1):
+        for rest in length_lists(points - length, length):
+            yield [length] + rest
+
+
+def greatest_examples():
+    """Paper 9 of document 02: the periods that it names, that of 120 points, and the order of the checks. The model's own have to be the greatest over every
+    map of up to 6 points, counted step by step, and over all lists of cycle lengths of up to 30 points."""
+    def given(kind, value, *lines):
+        assert all(line[2:] == [KINDS[kind], value] for line in lines), lines
+        return list(lines)
+
+    for n in range(7):
+        assert model.greatest_cycles(n)[0] == max(map(model.period_by_steps, itertools.product(range(n), repeat=n))), n
+    for n in range(31):
+        assert model.greatest_cycles(n)[0] == max(map(model.least_multiple, length_lists(n))), n
+    lines = [line for n, value in ((5, 6), (7, 12), (0, 1)) for line in given("number", value, greatest_period(n))]
+    lines += given("number", 5354228880, greatest_period(120)) + given("refused", 8, greatest_period(0, 999), greatest_period(120, 999))
+    return lines + given("refused", 13, greatest_period(121, 0), greatest_period(200, 0)) + given("refused", 1, greatest_period(201, 0))
+
+
+def cycles_code(n):
+    """A code of n points with the greatest period, one of those that may be written: the model's cycle lengths, and fixed points."""
+    value, lengths = model.greatest_cycles(n)
+    system = [model.cycle(k) for k in [1] * (n - sum(lengths)) + lengths]
+    code = model.written(system)
+    assert model.accepted(code) == system and model.period(model.map_of_system(system)) == ("number", value) and len(code) <= WIDE, n
+    return code
+
+
+def greatest():
+    """Every number of points with just enough room. For many, more room, and less, also where a code would fit. Counts at which 13 and 1 begin, and some that
+    are small where they are cut to 8, 16 or 32 bits, with any room."""
+    codes = [*map(cycles_code, range(121))]
+    lines = greatest_examples() + [greatest_period(n) for n in range(121)]
+    for n in sorted({*range(13), *range(0, 121, 5), *range(112, 121)}):
+        lines += [greatest_period(n, room) for room in (1001, 1000 + 37 * n, WIDEST)]
+        short = [greatest_period(n, room) for room in (0, 1, 100, len(codes[n]) - 1, len(codes[n]), len(codes[n]) + 1, 256, 804, 998, 999)]
+        assert all(line[2:] == [KINDS["refused"], 8] for line in short)
+        lines += short
+    counts = [121, 122, 127, 128, 150, 198, 199, 200, 201, 202, 255, 256, 257, 261, 320, 376, 1000, 65536, 65541]
+    counts += [2**32, 2**32 + 5, 2**32 + 120, 2**63 - 1, 2**64 - 1]
+    lines += [greatest_period(n, room) for n in counts for room in (0, 999, WIDE, WIDEST)]
+    return [list(line) for line in dict.fromkeys(map(tuple, lines))]
+
+
 # ---- pages
 
 
@@ -1112,6 +1170,7 @@ def main():
     files += [("keystrokes", keystrokes()), ("rooms", rooms()), ("steps", steps()), ("steps_back", steps_back()), ("codes", codes_of_maps()), ("census", censuses())]
     files += [("components", components()), ("pages", pages()), ("pages_long", pages_long()), ("pairs", pairs())]
     files += [("sums", sums()), ("sums_long", sums_long()), ("products_long", products_long()), ("table_counts", table_counts()), ("periods", periods())]
+    files.append(("greatest", greatest()))
     other = sum(not save(name, lines) for name, lines in files)
     print(f"{len(files)} files in {os.path.relpath(MADE)}, {other} not as in crates/checks/data")
     return 1 if other else 0

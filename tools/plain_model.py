@@ -13,6 +13,7 @@ COUNT, IMAGE, TRUNCATED, NUMBER_FORM, SIZES, NOT_CANONICAL, TRAILING, ROOM, POSI
 MOST_WANTED = 1000
 MOST_COUNTED = 15
 MOST_PERIOD_POINTS = 120
+ENOUGH_BYTES = 1000
 
 
 class Refused(Exception):
@@ -399,6 +400,14 @@ def renamings(table):
 # ---- the period of a map, which the paper calls round length
 
 
+def least_multiple(lengths):
+    """The least common multiple."""
+    multiple = 1
+    for length in lengths:
+        multiple = multiple * length // math.gcd(multiple, length)
+    return multiple
+
+
 def settled(table):
     """Where each point has come to once every point is on a cycle; as many steps as there are points are enough."""
     places = list(range(len(table)))
@@ -419,10 +428,31 @@ def period_by_steps(table):
 def period_of_map(table):
     """The same number without making that many steps: a point on a cycle is back after as many steps as the cycle has points, after twice as many and so on, and at no
     other time. tools/make_data.py holds it against the steps."""
-    period = 1
-    for length in {len(walk(table, x)) for x in settled(table)}:
-        period = period * length // math.gcd(period, length)
-    return period
+    return least_multiple({len(walk(table, x)) for x in settled(table)})
+
+
+# ---- the greatest period of so many points
+
+
+@functools.lru_cache(None)
+def fewest_points():
+    """For each period of a map of up to 120 points, cycle lengths that have it, after their sum, which is the least. A map has any cycles whose lengths make no
+    more than its points, as the other points can hang at them, and a second cycle of the same length changes no period. So the lengths are taken in one after
+    another, each to all that was found before it. Of lengths with the same period those of the least sum are enough: with whatever is taken in later they have
+    the same period again, and the least sum."""
+    found = {1: (0, [])}
+    for length in range(1, MOST_PERIOD_POINTS + 1):
+        for period, (count, lengths) in list(found.items()):
+            if count + length <= MOST_PERIOD_POINTS:
+                both, more = least_multiple([period, length]), (count + length, lengths + [length])
+                found[both] = min(found.get(both, more), more)
+    return found
+
+
+@functools.lru_cache(None)
+def greatest_cycles(n):
+    """The greatest period of n points, and cycle lengths of at most n points that have it. tools/make_data.py holds it against maps and lists of lengths."""
+    return max((period, lengths) for period, (count, lengths) in fewest_points().items() if count <= n)
 
 
 # ---- the entries: what each answers, given the room of the lent output
@@ -570,3 +600,15 @@ def period(table):
         return "number", period_of_map(checked(table))
     except Refused as cause:
         return "refused", cause.args[0]
+
+
+def greatest_period(n, room):
+    """The greatest period of n points, or a refusal: 1, then 13, then 8, which a buffer of fewer than 1,000 bytes is, whichever code is chosen. Which one is
+    written is left open, so the answer has none."""
+    if n > 200:
+        return "refused", COUNT
+    if n > MOST_PERIOD_POINTS:
+        return "refused", TOO_MANY_POINTS
+    if room < ENOUGH_BYTES:
+        return "refused", ROOM
+    return "number", greatest_cycles(n)[0]

@@ -22,12 +22,12 @@ CAUSES = {
     5: "the sizes in a code do not fit each other",
     6: "the sizes fit, but this is not the code of the pattern",
     7: "there are numbers after the code",
-    8: "the output is shorter than the result",
+    8: "the output is shorter than the result; for the greatest period, than 1,000 bytes",
     9: "the code has no component at that position",
     10: "more than 1,000 codes are wanted",
     11: "the result has more than 200 points",
     12: "the code has more than 15 points, and its tables are not counted",
-    13: "the table has more than 120 points, and its period is not told",
+    13: "a count of points, or the length of a table, is above 120, and no period is told",
 }
 _LAST = -100
 _NONE = -101
@@ -80,6 +80,12 @@ class _PageReply(ctypes.Structure):
     """How many codes a page has, and how many bytes they take together; a refusal stands in both."""
 
     _fields_ = [("codes", ctypes.c_int64), ("bytes", ctypes.c_int64)]
+
+
+class _GreatestReply(ctypes.Structure):
+    """How many bytes a code with the greatest period has, and what that is; a refusal stands in both."""
+
+    _fields_ = [("length", ctypes.c_int64), ("period", ctypes.c_int64)]
 
 
 def _reply(kind, name, *arguments):
@@ -180,6 +186,14 @@ def period(table):
     """The least number of steps, at least 1, that bring each point of a map back once every point is on a cycle: the least common multiple of the cycle lengths, and 1
     for no points. The map may have 120 points."""
     return _call("lethmuok_period", _given(table))
+
+
+def greatest_period(n, room=_MAX_CODE):
+    """A code of n points with the greatest period, n at most 120, and that period: no map of n points has a greater one. Less room than 1,000 bytes is refused,
+    however short the code is."""
+    out = _room(min(_count(room).value, _MAX_CODE))
+    reply = _reply(_GreatestReply, "lethmuok_greatest_period", _count(n), out)
+    return bytes(out[: _unrefused(reply.length)]), reply.period
 
 
 def component(code, position):

@@ -26,16 +26,16 @@ causes! {
     Sizes = 5, "the sizes in a code do not fit each other";
     NotCanonical = 6, "the sizes fit, but this is not the code of the pattern";
     Trailing = 7, "there are numbers after the code";
-    Room = 8, "the output is shorter than the result";
+    Room = 8, "the output is shorter than the result; for the greatest period, than 1,000 bytes";
     Position = 9, "the code has no component at that position";
     Wanted = 10, "more than 1,000 codes are wanted";
     TooLarge = 11, "the result has more than 200 points";
     Uncounted = 12, "the code has more than 15 points, and its tables are not counted";
-    TooManyPoints = 13, "the table has more than 120 points, and its period is not told";
+    TooManyPoints = 13, "a count of points, or the length of a table, is above 120, and no period is told";
 }
 
-/// What every function answers but `predecessor`, `page`, `period`, `component` and `table_count`. A result fills the first places of its buffer; with another reply than
-/// a number all buffers are kept.
+/// What every function answers but `predecessor`, `page`, `period`, `greatest_period`, `component` and `table_count`. A result fills the first places of its
+/// buffer; with another reply than a number all buffers are kept.
 #[derive(Clone, Copy, Debug, PartialEq, Eq)]
 pub enum Reply {
     /// the length of what was written, or the number that was asked for
@@ -64,8 +64,15 @@ pub struct Page {
     pub bytes: usize,
 }
 
-/// 1,000 bytes hold every code, 19 entries every census. No more than 1,000 codes may be wanted, which `MAX_WANTED * MAX_CODE` bytes hold. Tables are counted of codes of
-/// at most 15 points, and the period is told of maps of at most 120.
+/// What `greatest_period` answers where it is not refused: the length of the code that it wrote, and its period.
+#[derive(Clone, Copy, Debug, PartialEq, Eq)]
+pub struct GreatestPeriod {
+    pub length: usize,
+    pub period: u64,
+}
+
+/// 1,000 bytes hold every code, 19 entries every census. No more than 1,000 codes may be wanted, which `MAX_WANTED * MAX_CODE` bytes hold. Tables are counted
+/// of codes of at most 15 points, and a period, that of a map or the greatest, is told of at most 120.
 pub const MAX_CODE: usize = 1000;
 pub const MAX_ENTRIES: usize = 19;
 pub const MAX_WANTED: usize = 1000;
@@ -77,6 +84,12 @@ mod c {
     pub struct PageReply {
         pub codes: i64,
         pub bytes: i64,
+    }
+
+    #[repr(C)]
+    pub struct GreatestReply {
+        pub length: i64,
+        pub period: i64,
     }
 
     extern "C" {
@@ -93,6 +106,7 @@ mod c {
         pub fn lethmuok_census(table: *const u8, n: usize, lengths: *mut u8, lengths_len: usize, counts: *mut u8, counts_len: usize) -> i64;
         pub fn lethmuok_height(table: *const u8, n: usize) -> i64;
         pub fn lethmuok_period(table: *const u8, n: usize) -> i64;
+        pub fn lethmuok_greatest_period(n: usize, out: *mut u8, out_len: usize) -> GreatestReply;
         pub fn lethmuok_component_start(code: *const u8, code_len: usize, position: usize) -> i64;
         pub fn lethmuok_component_end(code: *const u8, code_len: usize, position: usize) -> i64;
         pub fn lethmuok_component_turns(code: *const u8, code_len: usize, position: usize) -> i64;
@@ -197,6 +211,13 @@ pub fn height(table: &[u8]) -> Reply {
 /// is the least common multiple of the cycle lengths, and 1 for no points.
 pub fn period(table: &[u8]) -> Result<u64, Refusal> {
     quantity(unsafe { c::lethmuok_period(table.as_ptr(), table.len()) })
+}
+
+/// Writes a code of n points with the greatest period, n at most `MAX_PERIOD_POINTS`, and tells that period: no map of n points has a greater one. Fewer than
+/// `MAX_CODE` bytes of room are refused, however short the code is.
+pub fn greatest_period(n: usize, out: &mut [u8]) -> Result<GreatestPeriod, Refusal> {
+    let reply = unsafe { c::lethmuok_greatest_period(n, out.as_mut_ptr(), out.len()) };
+    Ok(GreatestPeriod { length: quantity(reply.length)? as usize, period: quantity(reply.period)? })
 }
 
 /// The bytes of the component at a position, counted from 0, as a part of the code.

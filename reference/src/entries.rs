@@ -2,10 +2,11 @@
 
 use crate::component::Component;
 use crate::count::tables;
+use crate::landau::longest;
 use crate::map::{checked, cycle_lengths, height as height_of, in_pairs, map_of_system, period as period_of, side_by_side, system_of_map};
 use crate::system::{accepted, predecessor as previous, successor as next};
 use crate::written::write;
-use crate::{Cause, MOST_COUNTED, MOST_PERIOD_POINTS, MOST_POINTS, MOST_WANTED};
+use crate::{Cause, EVERY_CODE, MOST_COUNTED, MOST_PERIOD_POINTS, MOST_POINTS, MOST_WANTED};
 
 /// The reply of a successor entry to the last code of its count.
 pub const LAST: i64 = -100;
@@ -18,6 +19,11 @@ pub const FIRST: i64 = -102;
 
 fn reply(result: Result<i64, Cause>) -> i64 {
     result.unwrap_or_else(|cause| -(cause as i64))
+}
+
+/// Two numbers; a refusal stands in both.
+fn two_replies(result: Result<(i64, i64), Cause>) -> (i64, i64) {
+    (reply(result.map(|(one, _)| one)), reply(result.map(|(_, other)| other)))
 }
 
 /// A result fills the first places of the lent buffer, or is refused.
@@ -80,8 +86,8 @@ fn following(code: &[u8], wanted: usize) -> Result<(i64, Vec<u8>), Cause> {
 }
 
 pub fn page(code: &[u8], wanted: usize, out: &mut [u8]) -> PageReply {
-    let written = following(code, wanted).and_then(|(codes, bytes)| Ok((codes, put(&bytes, out)?)));
-    PageReply { codes: reply(written.map(|(codes, _)| codes)), bytes: reply(written.map(|(_, bytes)| bytes)) }
+    let (codes, bytes) = two_replies(following(code, wanted).and_then(|(codes, bytes)| Ok((codes, put(&bytes, out)?))));
+    PageReply { codes, bytes }
 }
 
 pub fn code_of_map(table: &[u8], out: &mut [u8]) -> i64 {
@@ -149,6 +155,35 @@ pub fn period(table: &[u8]) -> i64 {
         return reply(Err(Cause::TooManyPoints));
     }
     reply(checked(table).map(|()| period_of(table) as i64))
+}
+
+/// The reply of the greatest period: how many bytes the code has, and what its period is. A refusal stands in both.
+#[repr(C)]
+#[derive(Clone, Copy, Debug, PartialEq, Eq)]
+pub struct GreatestReply {
+    pub length: i64,
+    pub period: i64,
+}
+
+/// Writes a code with the greatest period. What room there has to be does not depend on the code.
+fn put_longest(n: usize, out: &mut [u8]) -> Result<(i64, i64), Cause> {
+    if n > MOST_POINTS {
+        return Err(Cause::Count);
+    }
+    if n > MOST_PERIOD_POINTS {
+        return Err(Cause::TooManyPoints);
+    }
+    if out.len() < EVERY_CODE {
+        return Err(Cause::Room);
+    }
+    let (lengths, period) = longest(n);
+    let system: Vec<Component> = lengths.into_iter().map(Component::cycle).collect();
+    Ok((put(&write(&system).0, out)?, period as i64))
+}
+
+pub fn greatest_period(n: usize, out: &mut [u8]) -> GreatestReply {
+    let (length, period) = two_replies(put_longest(n, out));
+    GreatestReply { length, period }
 }
 
 /// Where the part of the component at a position starts and ends.

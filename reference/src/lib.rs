@@ -9,15 +9,17 @@
 //! Sum and product came later, too; their author had read the definitions, and numbers the points of a result otherwise than these do.
 //! So did the turns of a component; they are counted over all rotations, and share nothing with the test for the least one.
 //! The number of tables came later; its author knew by which formula the engine counts, and hands out names in its place.
-//! The period came last; its author knew that the engine adds up multiples of the cycle lengths, and takes them apart into powers of primes.
+//! The period came later; its author knew that the engine adds up multiples of the cycle lengths, and takes them apart into powers of primes.
+//! The greatest period came last; its author knew that the engine has the cycle lengths of each count in a table, and looks for them.
 //!
-//! A reply is a length, n or another number that was asked for, minus the number of the cause of a refusal, or one of [`LAST`], [`NONE`] and [`FIRST`]; that of a page is
-//! two numbers, [`PageReply`].
+//! A reply is a length, n or another number that was asked for, minus the number of the cause of a refusal, or one of [`LAST`], [`NONE`] and [`FIRST`]; that of
+//! a page and that of the greatest period are two numbers, [`PageReply`] and [`GreatestReply`].
 
 mod component;
 mod count;
 mod entries;
 mod generation;
+mod landau;
 mod map;
 mod system;
 mod written;
@@ -48,11 +50,14 @@ pub enum Cause {
 /// The most points that a map may have.
 pub const MOST_POINTS: usize = 200;
 
+/// Bytes that hold every code.
+pub const EVERY_CODE: usize = 1000;
+
 /// The most codes that may be wanted of a page.
 pub const MOST_WANTED: usize = 1000;
 
 /// The most points of a code whose tables are counted.
 pub const MOST_COUNTED: usize = 15;
 
-/// The most points of a map whose period is told.
+/// The most points of a map whose period is told, and of which the greatest is.
 pub const MOST_PERIOD_POINTS: usize = 120;

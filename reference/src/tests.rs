@@ -1,4 +1,4 @@
-//! The examples and totals of document 01, and the pages, steps back, sums, products, turns, numbers of tables and periods of document 02.
+//! The examples and totals of document 01, and the pages, steps back, sums, products, turns, numbers of tables, periods and greatest periods of document 02.
 
 use crate::*;
 
@@ -94,17 +94,26 @@ fn census_and_components() {
     assert_eq!(component_start(&code, 2), -9);
 }
 
-/// The page in an output of so many places, if every place after it is kept.
-fn paged(code: &[u8], wanted: usize, room: usize) -> Result<(i64, Vec<u8>), i64> {
+/// The first reply of an entry that has two, and what it wrote into an output of so many places, as long as the second one says. Every other place has to be
+/// kept, and a refusal has to stand in both.
+fn filled(room: usize, entry: impl FnOnce(&mut [u8]) -> (i64, i64)) -> Result<(i64, Vec<u8>), i64> {
     let mut out = vec![7; room];
-    let reply = page(code, wanted, &mut out);
-    let kept = out.split_off(reply.bytes.max(0) as usize);
+    let (number, length) = entry(&mut out);
+    let kept = out.split_off(length.max(0) as usize);
     assert!(kept.iter().all(|&byte| byte == 7));
-    if reply.codes < 0 {
-        assert_eq!(reply.codes, reply.bytes);
-        return Err(reply.codes);
+    if number < 0 {
+        assert_eq!(number, length);
+        return Err(number);
     }
-    Ok((reply.codes, out))
+    Ok((number, out))
+}
+
+/// The page in an output of so many places.
+fn paged(code: &[u8], wanted: usize, room: usize) -> Result<(i64, Vec<u8>), i64> {
+    filled(room, |out| {
+        let reply = page(code, wanted, out);
+        (reply.codes, reply.bytes)
+    })
 }
 
 #[test]
@@ -590,24 +599,66 @@ fn periods_bring_each_point_back() {
     }
 }
 
-/// The greatest periods of 0 to 120 points: a length that is a power of a prime joins shorter lists, one power of each prime.
-fn greatest_periods() -> Vec<i64> {
-    let mut greatest = vec![1; MOST_PERIOD_POINTS + 1];
-    for prime in (2..=MOST_PERIOD_POINTS).filter(|&x| (2..x).all(|divisor| x % divisor > 0)) {
-        for n in (prime..=MOST_PERIOD_POINTS).rev() {
-            let powers = std::iter::successors(Some(prime), |&power| Some(power * prime)).take_while(|&power| power <= n);
-            greatest[n] = powers.map(|power| power as i64 * greatest[n - power]).fold(greatest[n], i64::max);
+/// The greatest period of n points, and a code that has it, in an output of so many places.
+fn longest(n: usize, room: usize) -> Result<(i64, Vec<u8>), i64> {
+    filled(room, |out| {
+        let reply = greatest_period(n, out);
+        (reply.period, reply.length)
+    })
+}
+
+/// The greatest of the least common multiples of all partitions of n points, each built up from its greatest part down.
+fn greatest_of_partitions(n: usize, most: usize, multiple: usize) -> usize {
+    let joined = |part: usize| (1..).map(|times| times * multiple).find(|number| number % part == 0).expect("a multiple");
+    (1..=n.min(most)).map(|part| greatest_of_partitions(n - part, part, joined(part))).max().unwrap_or(multiple)
+}
+
+#[test]
+fn greatest_periods() {
+    let code = |n, room| longest(n, room).map(|(_, code)| code);
+    assert_eq!((code(0, 1000), code(1, 1000), code(5, 1001)), (Ok(vec![0, 0]), Ok(vec![1, 1, 1, 1]), Ok(vec![5, 2, 2, 1, 1, 3, 1, 1, 1])));
+    assert_eq!(code(7, 5000), Ok(vec![7, 2, 3, 1, 1, 1, 4, 1, 1, 1, 1]));
+    // a point that no cycle takes
+    assert_eq!(code(6, 1000), Ok(vec![6, 3, 1, 1, 2, 1, 1, 3, 1, 1, 1]));
+    // Landau's function, OEIS A000793; the greatest of 120 points takes more than 32 bits
+    for (n, period) in [(0, 1), (5, 6), (7, 12), (13, 60), (15, 105), (30, 4620), (100, 232_792_560), (119, 3_375_492_120), (120, 5_354_228_880)] {
+        assert_eq!(longest(n, 1000).map(|(period, _)| period), Ok(period), "{n}");
+    }
+    for n in 0..=40 {
+        assert_eq!(longest(n, 1000).map(|(period, _)| period), Ok(greatest_of_partitions(n, n, 1) as i64), "{n}");
+    }
+}
+
+#[test]
+fn codes_have_the_greatest_period() {
+    for n in 0..=MOST_PERIOD_POINTS {
+        let (greatest, code) = longest(n, 1000).unwrap();
+        let table = written(|out| map_of_code(&code, out)).unwrap();
+        assert_eq!((accept(&code), period(&table)), (n as i64, greatest), "{n}");
+        assert_eq!((longest(n, 1001), longest(n, 4000)), (Ok((greatest, code.clone())), Ok((greatest, code))), "{n}");
+    }
+}
+
+#[test]
+fn refused_greatest_periods() {
+    for n in (0..=300).chain([1 << 32, (1 << 32) + 5, 1 << 63, usize::MAX]) {
+        for room in [0, 1, 2, 10, 804, 998, 999, 1000, 5000] {
+            let refusal = match n {
+                201.. => Some(-1),
+                121.. => Some(-13),
+                _ => (room < 1000).then_some(-8),
+            };
+            assert_eq!(longest(n, room).err(), refusal, "{n} {room}");
         }
     }
-    greatest
 }
 
 #[test]
 fn no_period_is_above_the_greatest() {
-    let greatest = greatest_periods();
-    // Landau's function, OEIS A000793
-    assert_eq!(greatest[..16], [1, 1, 2, 3, 4, 6, 6, 12, 15, 20, 30, 30, 60, 60, 84, 105]);
-    assert_eq!((greatest[100], greatest[120]), (232_792_560, 5_354_228_880));
+    let greatest: Vec<i64> = (0..=MOST_PERIOD_POINTS).map(|n| longest(n, 1000).unwrap().0).collect();
+    for n in 0..=6 {
+        assert_eq!(every_table(n).map(|table| period(&table)).max(), Some(greatest[n]), "{n}");
+    }
     let state = &mut 5;
     for _ in 0..5000 {
         let n = 1 + random(state, MOST_PERIOD_POINTS);

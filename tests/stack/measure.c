@@ -23,6 +23,7 @@ static void isomorphism(void) { lethmuok_isomorphism(table, table_len, other, ta
 static void census(void) { lethmuok_census(table, table_len, out, sizeof out, counts, sizeof counts); }
 static void height(void) { lethmuok_height(table, table_len); }
 static void period(void) { lethmuok_period(table, table_len); }
+static void greatest_period(void) { lethmuok_greatest_period(table_len, out, sizeof out); }
 static void component_start(void) { lethmuok_component_start(code, code_len, 0); }
 static void component_end(void) { lethmuok_component_end(code, code_len, 0); }
 static void component_turns(void) { lethmuok_component_turns(code, code_len, 0); }
@@ -53,8 +54,8 @@ static struct entry {
 } entries[] = {
     {"accept", accept, 0}, {"first", first, 0}, {"successor", successor, 0}, {"predecessor", predecessor, 0}, {"page", page, 0}, {"code_of_map", code_of_map, 0},
     {"map_of_code", map_of_code, 0}, {"sum", sum, 0}, {"product", product, 0}, {"isomorphism", isomorphism, 0}, {"census", census, 0}, {"height", height, 0},
-    {"period", period, 0}, {"component_start", component_start, 0}, {"component_end", component_end, 0}, {"component_turns", component_turns, 0},
-    {"table_count", table_count, 0},
+    {"period", period, 0}, {"greatest_period", greatest_period, 0}, {"component_start", component_start, 0}, {"component_end", component_end, 0},
+    {"component_turns", component_turns, 0}, {"table_count", table_count, 0},
 };
 enum { ENTRIES = sizeof entries / sizeof entries[0] };
 

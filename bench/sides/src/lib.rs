@@ -4,7 +4,7 @@ pub mod maps;
 pub mod random;
 
 /// The entries of one implementation. A reply is a length, n or another number that was asked for, minus the number of the cause of a refusal, [`LAST`], [`NONE`] or
-/// [`FIRST`]; that of a page is a [`PageReply`].
+/// [`FIRST`]; that of a page is a [`PageReply`], and that of the greatest period a [`GreatestReply`].
 pub struct Side {
     pub name: &'static str,
     pub accept: fn(&[u8]) -> i64,
@@ -20,13 +20,14 @@ pub struct Side {
     pub census: fn(&[u8], &mut [u8], &mut [u8]) -> i64,
     pub height: fn(&[u8]) -> i64,
     pub period: fn(&[u8]) -> i64,
+    pub greatest_period: fn(usize, &mut [u8]) -> GreatestReply,
     pub component_start: fn(&[u8], usize) -> i64,
     pub component_end: fn(&[u8], usize) -> i64,
     pub component_turns: fn(&[u8], usize) -> i64,
     pub table_count: fn(&[u8]) -> i64,
 }
 
-pub use reference::{PageReply, FIRST, LAST, MOST_COUNTED, MOST_PERIOD_POINTS, MOST_WANTED, NONE};
+pub use reference::{GreatestReply, PageReply, EVERY_CODE, FIRST, LAST, MOST_COUNTED, MOST_PERIOD_POINTS, MOST_WANTED, NONE};
 
 /// Bytes that hold every page.
 pub const EVERY_PAGE: usize = 1_000_000;
@@ -49,6 +50,9 @@ pub const HAS_TABLE_COUNT: bool = cfg!(not(without_table_count));
 /// The same of the entry `period`.
 pub const HAS_PERIOD: bool = cfg!(not(without_period));
 
+/// The same of the entry `greatest_period`.
+pub const HAS_GREATEST_PERIOD: bool = cfg!(not(without_greatest_period));
+
 pub const REFERENCE: Side = Side {
     name: "reference",
     accept: reference::accept,
@@ -64,6 +68,7 @@ pub const REFERENCE: Side = Side {
     census: reference::census,
     height: reference::height,
     period: reference::period,
+    greatest_period: reference::greatest_period,
     component_start: reference::component_start,
     component_end: reference::component_end,
     component_turns: reference::component_turns,
@@ -92,6 +97,8 @@ mod c {
         pub fn lethmuok_height(table: *const u8, n: usize) -> i64;
         #[cfg(not(without_period))]
         pub fn lethmuok_period(table: *const u8, n: usize) -> i64;
+        #[cfg(not(without_greatest_period))]
+        pub fn lethmuok_greatest_period(n: usize, out: *mut u8, room: usize) -> super::GreatestReply;
         pub fn lethmuok_component_start(code: *const u8, len: usize, position: usize) -> i64;
         pub fn lethmuok_component_end(code: *const u8, len: usize, position: usize) -> i64;
         #[cfg(not(without_component_turns))]
@@ -134,6 +141,10 @@ pub const ENGINE: Side = Side {
     period: |table| unsafe { c::lethmuok_period(table.as_ptr(), table.len()) },
     #[cfg(without_period)]
     period: |_| panic!("this library has no period"),
+    #[cfg(not(without_greatest_period))]
+    greatest_period: |n, out| unsafe { c::lethmuok_greatest_period(n, out.as_mut_ptr(), out.len()) },
+    #[cfg(without_greatest_period)]
+    greatest_period: |_, _| panic!("this library has no greatest_period"),
     component_start: |code, position| unsafe { c::lethmuok_component_start(code.as_ptr(), code.len(), position) },
     component_end: |code, position| unsafe { c::lethmuok_component_end(code.as_ptr(), code.len(), position) },
     #[cfg(not(without_component_turns))]
@@ -148,7 +159,7 @@ pub const ENGINE: Side = Side {
 
 /// What an entry writes into a buffer that holds every result, or its reply.
 pub fn written(entry: impl FnOnce(&mut [u8]) -> i64) -> Result<Vec<u8>, i64> {
-    let mut out = vec![0; 1000];
+    let mut out = vec![0; EVERY_CODE];
     let reply = entry(&mut out);
     if reply < 0 {
         return Err(reply);

@@ -7,7 +7,7 @@ mod labelg;
 mod work;
 
 use clock::own_seconds;
-use sides::{Side, ENGINE, HAS_PAGE, HAS_PERIOD, HAS_PREDECESSOR, HAS_SUM, HAS_TABLE_COUNT, HAS_TURNS, REFERENCE};
+use sides::{Side, ENGINE, HAS_GREATEST_PERIOD, HAS_PAGE, HAS_PERIOD, HAS_PREDECESSOR, HAS_SUM, HAS_TABLE_COUNT, HAS_TURNS, REFERENCE};
 use work::Work;
 
 /// Each work is repeated so often, what is compared taking turns.
@@ -31,12 +31,13 @@ pub fn best(work: &Work) -> [f64; 2] {
     in_turn([(work, &ENGINE), (work, &REFERENCE)])
 }
 
-/// A time with three digits that count.
+/// A time with two or three digits that count. Some are left of the shortest time too, since `bench/against` divides by it.
 pub fn digits(time: f64) -> String {
     match time {
         t if t >= 100.0 => format!("{t:.0}"),
         t if t >= 10.0 => format!("{t:.1}"),
-        t => format!("{t:.2}"),
+        t if t >= 0.1 => format!("{t:.2}"),
+        t => format!("{t:.4}"),
     }
 }
 
@@ -83,6 +84,9 @@ fn main() {
     table("Census of a map of 200 points", work::censuses());
     if HAS_PERIOD {
         table("Period of a map of 120 points", work::periods());
+    }
+    if HAS_GREATEST_PERIOD {
+        table("Greatest period of up to 120 points, and a code that has it", work::greatest_periods());
     }
     table("Accept, on codes of 200 points and on other bytes", work::acceptances());
     table("Where the components of codes of 200 points begin", work::starts_of_components());

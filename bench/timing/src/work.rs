@@ -2,7 +2,7 @@
 
 use sides::maps::{is_isomorphism, shuffled, uniform, with_cycles, Kind, KINDS, PERIODIC};
 use sides::random::Random;
-use sides::{code_of, written, Side, ENGINE, EVERY_PAGE, MOST_COUNTED, MOST_PERIOD_POINTS, MOST_WANTED, REFERENCE};
+use sides::{code_of, written, Side, ENGINE, EVERY_CODE, EVERY_PAGE, MOST_COUNTED, MOST_PERIOD_POINTS, MOST_WANTED, REFERENCE};
 
 /// A work: what one side does of it, in so many calls, and whether both sides get the same.
 pub struct Work {
@@ -335,6 +335,27 @@ pub fn periods() -> Vec<Work> {
         works("fixed points, the last byte no point, refused", vec![no_point]),
     ];
     KINDS.into_iter().map(|kind| works(kind.0, tables(kind))).chain(others).collect()
+}
+
+/// The greatest period of n points. Which code is written is left open, so its points and its period are compared, and what is told of it.
+fn longest(name: String, n: usize) -> Work {
+    let told = move |side: &Side| {
+        let mut out = [0; EVERY_CODE];
+        let reply = (side.greatest_period)(n, &mut out);
+        let code = &out[..reply.length.max(0) as usize];
+        let period = written(|out| (side.map_of_code)(code, out)).map(|table| (side.period)(&table));
+        (reply.length.min(0), reply.period, (side.accept)(code), period)
+    };
+    // A thousand calls share one buffer, which takes longer to clear than some of them.
+    let timed = calls(&name, vec![n; 1000], |side, &n, out| (side.greatest_period)(n, out).length, equal);
+    Work { agree: Box::new(move || told(&ENGINE) == told(&REFERENCE)), ..timed }
+}
+
+/// Of some counts of points up to the most, and what it takes to refuse one more.
+pub fn greatest_periods() -> Vec<Work> {
+    let counts = [0, 30, 60, 100, MOST_PERIOD_POINTS].map(|n| longest(format!("greatest period: {n} points"), n));
+    let refused = longest("greatest period: 121 points, refused".into(), MOST_PERIOD_POINTS + 1);
+    counts.into_iter().chain([refused]).collect()
 }
 
 /// The length of a hostile input.

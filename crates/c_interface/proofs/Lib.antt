@@ -5,3 +5,4 @@ pub mod Parts
 pub mod Pages
 pub mod CountFits
 pub mod PeriodFits
+pub mod GreatestFits

@@ -1,7 +1,9 @@
-// The entries of the engine for callers in C: numbers and byte slices in, one signed number out, of a page two. Of each slice C hands over a pointer and a count.
+// The entries of the engine for callers in C: numbers and byte slices in, one signed number out, of a page and of the greatest period two. Of each slice C hands over a pointer and a count.
 use component_parts::stretch_of;
+use signed_replies::GreatestReply;
 use signed_replies::PageReply;
 use signed_replies::end_number;
+use signed_replies::greatest_numbers;
 use signed_replies::isomorphism_number;
 use signed_replies::page_numbers;
 use signed_replies::predecessor_number;
@@ -19,7 +21,7 @@ ghost use Rattle.patterns.specs.Predecessor.{predecessorOf};
 ghost use Rattle.patterns.specs.Arithmetic.{sumOfCodes, productOfCodes};
 ghost use Rattle.patterns.specs.TableCount.{tableCount};
 ghost use Rattle.patterns.specs.Period.{periodOf};
-ghost use Rattle.patterns.specs.SignedReplies.{signedOf, Reported, PageReported, IsomorphismReported, CensusReported, componentStart, componentEnd, componentTurns};
+ghost use Rattle.patterns.specs.SignedReplies.{signedOf, Reported, PageReported, GreatestReported, IsomorphismReported, CensusReported, componentStart, componentEnd, componentTurns};
 
 // n, or the refusal of a code.
 #[no_mangle]
@@ -131,6 +133,14 @@ pub extern "C" fn lethmuok_period(table: &[u8]) -> i64
     ensures { λ r. ⌜ r ≡ signedOf (answer (periodOf (now (table .entry))) length-is) ⌝ }
 {
     quantity_number(engine::period(table))
+}
+
+// Writes a code of n points with the greatest period [document 02, paper 9: the system that runs longest].
+#[no_mangle]
+pub extern "C" fn lethmuok_greatest_period(n: usize, out: &mut [u8]) -> GreatestReply
+    ensures { λ r. ⌜ GreatestReported n (now (out .entry)) (r .length) (r .period) (now (out .exit)) ⌝ }
+{
+    greatest_numbers(engine::greatest_period(n, out))
 }
 
 // Where the bytes of the component at `position`, counted from 0, begin in `code`.

@@ -43,6 +43,7 @@ fn main() {
     run_sums();
     run_file(b"table_counts", b"numbers of tables");
     run_file(b"periods", b"periods");
+    greatest_checks::run(b"greatest", b"greatest periods");
     page_checks::run(b"pages", b"pages of codes");
     page_checks::run(b"pages_long", b"long pages");
     reader_checks::run(b"components");

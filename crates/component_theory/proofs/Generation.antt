@@ -1,8 +1,8 @@
 -- The list of the components of n points in generation order holds every valid one exactly once, and begins with the cycle of n points. That what is listed
 -- is valid and stands once holds for any order of the children.
-use mathlib.Core.Path.{_≡_, refl, ap, sym, _∙_}
+use mathlib.Core.Path.{_≡_, refl, ap, ap₂, sym, _∙_}
 use mathlib.Core.Bool.{Bool, true, false, true≢false}
-use mathlib.Core.List.{List, [], _∷_, _++_, reverse}
+use mathlib.Core.List.{List, [], _∷_, _++_, map, reverse}
 use mathlib.Core.Option.{some}
 use Prim.Native.Nat.{ℕ, zero, suc, _+_, _-_, _≤_, _<_}
 use native.Mathlib.Omega.{arith}
@@ -68,6 +68,10 @@ generation-is-walk n = refl
 pub cycle-points : (n : ℕ) → points (cycle n) ≡ n
 cycle-points zero = refl
 cycle-points (suc n) = omega (arith, cycle-points n)
+
+pub cycles-points : (l : List ℕ) → map points (map cycle l) ≡ l
+cycles-points [] = refl
+cycles-points (n ∷ l) = ap₂ _∷_ (cycle-points n) (cycles-points l)
 
 pub cycle-no-parent : (n : ℕ) → hasParent (cycle n) ≡ false
 cycle-no-parent zero = refl

@@ -8,5 +8,6 @@ pub mod WrittenCodes
 pub mod ArithmeticTheorems
 pub mod TableCountTheorems
 pub mod PeriodTheorems
+pub mod GreatestPeriodTheorems
 pub mod Demand3
 pub mod Promises

@@ -16,8 +16,9 @@ use Rattle.patterns.specs.Predecessor.{predecessorOf}
 use Rattle.patterns.specs.Arithmetic.{sumOfCodes, productOfCodes}
 use Rattle.patterns.specs.TableCount.{tableCount}
 use Rattle.patterns.specs.Period.{periodOf}
+use Rattle.patterns.specs.GreatestPeriod.{GreatestReplied}
 use Rattle.patterns.specs.Entry.{Replied, answer, acceptOf, firstOf, successorOf, codeOfMap, mapOfCode, IsomorphismReplied, CensusReplied}
-use Rattle.patterns.specs.Replies.{length-is, answerOf, quantityAnswer}
+use Rattle.patterns.specs.Replies.{length-is, answerOf, quantityAnswer, greatestAnswer}
 use Rattle.patterns.specs.Replies.{successorAnswer, predecessorAnswer, pageAnswer, isomorphismAnswer, censusAnswer}
 use Rattle.patterns.specs.Replies.{rowOf}
 use Rattle.patterns.specs.Entry.{RowsReplied, ColumnsReplied, heightOf}
@@ -52,6 +53,8 @@ use Rattle.census_entries.proofs.height.Reads as height
 use Rattle.census_entries.proofs.height.Kinds as height-kinds
 use Rattle.period_entry.proofs.period.Reads as period
 use Rattle.period_entry.proofs.period.Kinds as period-kinds
+use Rattle.greatest_period_entry.proofs.greatest_period.Reads as greatest-period
+use Rattle.greatest_period_entry.proofs.greatest_period.Kinds as greatest-period-kinds
 
 -- `accept`: the reply
 pub accept-promise : (κs : Lfts 1) (a : Dens κs accept-kinds.ps) (r : _) (s : _) → accept.Post κs a r s → answerOf r ≡ acceptOf (now (a .0))
@@ -132,3 +135,8 @@ height-promise κs a r s p = p
 -- `period`: the reply
 pub period-promise : (κs : Lfts 1) (a : Dens κs period-kinds.ps) (r : _) (s : _) → period.Post κs a r s → quantityAnswer r ≡ answer (periodOf (now (a .0))) length-is
 period-promise κs a r s p = p
+
+-- `greatest_period`
+pub greatest-period-promise : (κs : Lfts 1) (a : Dens κs greatest-period-kinds.ps) (r : _) (s : _) → greatest-period.Post κs a r s
+    → GreatestReplied (a .0) (now (a .1 .0)) (greatestAnswer r) (now (s .1 .0))
+greatest-period-promise κs a r s p = p

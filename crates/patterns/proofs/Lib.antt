@@ -21,5 +21,6 @@ pub mod PredecessorExamples
 pub mod ArithmeticExamples
 pub mod TableCountExamples
 pub mod PeriodExamples
+pub mod GreatestPeriodExamples
 pub mod CallExamples
 pub mod ListingExamples

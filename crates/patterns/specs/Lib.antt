@@ -17,6 +17,7 @@ pub mod Predecessor
 pub mod Arithmetic
 pub mod TableCount
 pub mod Period
+pub mod GreatestPeriod
 pub mod Calls
 pub mod SignedReplies
 pub mod Decimal

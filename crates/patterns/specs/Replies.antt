@@ -21,6 +21,8 @@ use Rattle.patterns.specs.declared.reply.Stretch.{Stretch}
 use Rattle.patterns.specs.declared.reply.Stretch.the-variants.{Part, Refused as NoPart}
 use Rattle.patterns.specs.declared.reply.Quantity.{Quantity}
 use Rattle.patterns.specs.declared.reply.Quantity.the-variants.{Number, Refused as NoNumber}
+use Rattle.patterns.specs.declared.reply.GreatestPeriod.{GreatestPeriod}
+use Rattle.patterns.specs.declared.reply.GreatestPeriod.the-variants.{Written as CodeWritten, Refused as NoCode}
 
 -- the table of causes; from 10 on document 02
 abbrev pub numberOf : Refusal → ℕ
@@ -61,6 +63,11 @@ pub data PartAnswer : Type 0 where
   part-is : ℕ → ℕ → ℕ → PartAnswer
   part-refused : ℕ → PartAnswer
 
+-- how long the code is that was written and what its period is, or a refusal with its number
+pub data GreatestAnswer : Type 0 where
+  greatest-is : ℕ → ℕ → GreatestAnswer
+  greatest-refused : ℕ → GreatestAnswer
+
 -- what each case of a reply says
 abbrev pub answerOf : Reply → Answer
 answerOf (Length n) = length-is n
@@ -96,6 +103,10 @@ partAnswer (NoPart c) = part-refused (numberOf c)
 abbrev pub quantityAnswer : Quantity → Answer
 quantityAnswer (Number n) = length-is n
 quantityAnswer (NoNumber c) = refused (numberOf c)
+
+abbrev pub greatestAnswer : GreatestPeriod → GreatestAnswer
+greatestAnswer (CodeWritten length period) = greatest-is length period
+greatestAnswer (NoCode c) = greatest-refused (numberOf c)
 
 -- what a struct of the lent list of rows says
 abbrev pub rowOf : RowStruct → Row

@@ -4,12 +4,13 @@ use mathlib.Core.Path.{_≡_}
 use mathlib.Core.List.{List}
 use Prim.Native.Nat.{ℕ}
 use lib.IntN.{ℤ, pos, negℤ}
-use Rattle.patterns.specs.Replies.{Answer, length-is, last, first-of-list, lacking, refused, PageAnswer, page-is, page-refused}
+use Rattle.patterns.specs.Replies.{Answer, length-is, last, first-of-list, lacking, refused, PageAnswer, page-is, page-refused, GreatestAnswer, greatest-is, greatest-refused}
 use Rattle.patterns.specs.Census.{rowsOf}
 use Rattle.patterns.specs.Entry.{Outcome, answer, answered, filled, componentOf, IsomorphismReplied, rowsFound, ColumnsFilled}
 use Rattle.patterns.specs.System.{System}
 use Rattle.patterns.specs.Reading.{Result}
 use Rattle.patterns.specs.Page.{pageFound, pageAnswered}
+use Rattle.patterns.specs.GreatestPeriod.{GreatestReplied}
 
 abbrev pub signedOf : Answer → ℤ
 signedOf (length-is n) = pos n
@@ -49,6 +50,23 @@ pub record PageReported (found : Result (List System)) (before : List ℕ) (code
   pub codes-are : codes ≡ signedOf (pageCount (pageAnswered found before))
   pub bytes-are : bytes ≡ signedOf (pageLength (pageAnswered found before))
   pub output : after ≡ filled (pageFound found) before
+
+-- of a code with the greatest period, how many bytes it has alone, or the refusal
+abbrev pub codeLength : GreatestAnswer → Answer
+codeLength (greatest-is length period) = length-is length
+codeLength (greatest-refused c) = refused c
+
+-- and its period
+abbrev pub codePeriod : GreatestAnswer → Answer
+codePeriod (greatest-is length period) = length-is period
+codePeriod (greatest-refused c) = refused c
+
+-- the entry of the greatest period replied with these two numbers, both a refusal where there is one
+pub record GreatestReported (n : ℕ) (before : List ℕ) (length period : ℤ) (after : List ℕ) : Type 0 where
+  pub reply : GreatestAnswer
+  pub length-told : length ≡ signedOf (codeLength reply)
+  pub period-told : period ≡ signedOf (codePeriod reply)
+  pub replied : GreatestReplied n before reply after
 
 -- where the bytes of the component at position i begin and end in the code b and how many of its rotations equal it, or the refusal
 abbrev pub componentStart : List ℕ → ℕ → Answer

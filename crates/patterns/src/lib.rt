@@ -3,6 +3,7 @@
 mod reply;
 
 pub use reply::Census;
+pub use reply::GreatestPeriod;
 pub use reply::Isomorphism;
 pub use reply::Page;
 pub use reply::Predecessor;

@@ -57,3 +57,9 @@ pub enum Quantity {
     Number(u64),
     Refused(Refusal),
 }
+
+// The length of a code that was written and its period, the greatest that a map of as many points has [document 02, paper 9], or a refusal with its cause.
+pub enum GreatestPeriod {
+    Written(usize, u64),
+    Refused(Refusal),
+}

@@ -1,3 +1,2 @@
 -- The laws of the period's functions, in plain terms; their proofs cite them.
-pub mod LcmSteps
 pub mod SmallTables

@@ -3,10 +3,9 @@ use mathlib.Core.Path.{_≡_, refl, ap, sym, _∙_}
 use mathlib.Core.List.{List}
 use Prim.Native.Nat.{ℕ, _≤_, _<_}
 use native.Mathlib.Omega.{arith}
-use lib.Dec.{ltb}
 use lib.ListN.{length}
-use borrow.Author.Tests.{lt-ltb, le-ltb}
-use Rattle.lists.proofs.Tests.{clash, each-true}
+use borrow.Author.Tests.{le-ltb}
+use Rattle.lists.proofs.Tests.{clash}
 use Rattle.patterns.specs.declared.Refusal.{Refusal}
 use Rattle.patterns.specs.declared.Refusal.the-variants.{Count, Image, TooManyPoints}
 use Rattle.patterns.specs.declared.reply.Reply.{Reply}
@@ -21,10 +20,10 @@ use Rattle.map_theory.proofs.Isomorphisms.{table-below}
 use Rattle.map_theory.proofs.Occurring.{occurring-positive, occurring-total}
 use Rattle.period_theory.specs.Multiples.{lcmFrom}
 use Rattle.period_theory.proofs.TriedPeriods.{period-occurring}
-use Rattle.period_theory.proofs.LandauBound.{lcm-below}
+use Rattle.multiples.specs.FittingMultiples.{LcmsAsked}
+use Rattle.multiples.proofs.LcmSteps.{few-asked}
 use Rattle.tables.specs.Tables.{tableReply}
 use Rattle.tables.proofs.Tables.{told-refused}
-use Rattle.period_entry.specs.FittingMultiples.{LcmsAsked}
 use Rattle.period_entry.specs.SmallTables.{SmallTable}
 
 -- The replies of the check, in their order.
@@ -60,11 +59,8 @@ module _ {f : List ℕ} (t : SmallTable f) where
 
   pub lengths-asked : LcmsAsked (occurring (length f) (image f))
   lengths-asked =
-      let positive = occurring-positive (length f) (image f) in
-      record {
-        positive = each-true (ltb 0) (occurring (length f) (image f)) (λ l m. lt-ltb 0 l (positive l m));
-        fits = let b = lcm-below (occurring (length f) (image f)) positive (omega (arith, occurring-total (length f) (image f) inside, t .small)) in omega arith;
-      }
+      few-asked (occurring (length f) (image f)) (occurring-positive (length f) (image f))
+      (omega (arith, occurring-total (length f) (image f) inside, t .small))
 
   pub lengths-period : lcmFrom 1 (occurring (length f) (image f)) ≡ period (length f) (image f)
   lengths-period = sym (period-occurring (length f) (image f) inside)

@@ -1,3 +1,2 @@
 -- What the functions behind the period of a map are asked for.
-pub mod FittingMultiples
 pub mod SmallTables

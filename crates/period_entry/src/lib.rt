@@ -1,5 +1,6 @@
 // The public entry that tells the period of a map [document 02, paper 8: round length].
 use census::cycle_rows;
+use multiples::lcm_of_all;
 use patterns::Quantity;
 use patterns::Refusal;
 use patterns::Reply;
@@ -12,35 +13,7 @@ ghost use Rattle.patterns.specs.Replies.{quantityAnswer, Answer.length-is};
 ghost use Rattle.patterns.specs.Entry.{answer};
 ghost use Rattle.patterns.specs.Period.{period as periodIn, checkedSmall, periodOf};
 ghost use Rattle.tables.specs.Tables.{tableReply};
-ghost use Rattle.period_theory.specs.Multiples.{lcm as lcmOf, lcmFrom};
-ghost use Rattle.period_entry.specs.FittingMultiples.{LcmAsked, LcmsAsked};
 ghost use Rattle.period_entry.specs.SmallTables.{SmallTable};
-
-// The least common multiple: the first of a, 2 · a, .. that b divides.
-fn lcm(a: u64, b: u64) -> u64
-    requires { ⌜ LcmAsked a b ⌝ }
-    ensures { λ r. ⌜ r ≡ lcmOf a b ⌝ }
-{
-    let mut multiple = a;
-    while multiple % b != 0 {
-        multiple += a;
-    }
-    multiple
-}
-
-// The least common multiple of all numbers of `s`, and 1 where it has none.
-fn lcm_of_all(s: &[u8]) -> u64
-    requires { ⌜ LcmsAsked (now s) ⌝ }
-    ensures { λ r. ⌜ r ≡ lcmFrom 1 (now (s .entry)) ⌝ }
-{
-    let mut multiple = 1u64;
-    let mut i = 0;
-    while i < s.len() {
-        multiple = lcm(multiple, s[i] as u64);
-        i += 1;
-    }
-    multiple
-}
 
 // The period of the table `f`: the least common multiple of the cycle lengths that occur.
 fn period_in(f: &[u8]) -> u64

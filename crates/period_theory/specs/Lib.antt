@@ -1,6 +1,4 @@
--- Least common multiples, the period of a map, Landau's function and lengths that reach it.
+-- Least common multiples, the period of a map and Landau's function.
 pub mod Multiples
 pub mod LeastPeriod
 pub mod Landau
-pub mod LandauLengths
-pub mod GreatestPeriod

@@ -9,8 +9,10 @@ use lib.IntN.{ℤ, pos, negsuc, negℤ}
 use Rattle.patterns.specs.declared.Refusal.{Refusal}
 use Rattle.patterns.specs.declared.reply.Page.{Page}
 use Rattle.patterns.specs.declared.reply.Page.the-variants.{Written, Refused}
-use Rattle.patterns.specs.Replies.{Answer, length-is, last, first-of-list, lacking, refused, numberOf, pageAnswer}
-use Rattle.patterns.specs.SignedReplies.{signedOf, pageCount, pageLength}
+use Rattle.patterns.specs.declared.reply.GreatestPeriod.{GreatestPeriod}
+use Rattle.patterns.specs.declared.reply.GreatestPeriod.the-variants.{Written as CodeWritten, Refused as NoCode}
+use Rattle.patterns.specs.Replies.{Answer, length-is, last, first-of-list, lacking, refused, numberOf, pageAnswer, greatestAnswer}
+use Rattle.patterns.specs.SignedReplies.{signedOf, pageCount, pageLength, codeLength, codePeriod}
 use Rattle.patterns.proofs.Causes.{cause-number}
 
 -- the reply that a caller takes a number for
@@ -41,3 +43,9 @@ refusal-told c = let b = cause-number c in cause-told (numberOf c) (b .0) (b .1)
 pub page-told : (r : Page) → (replyOf (signedOf (pageCount (pageAnswer r))) ≡ pageCount (pageAnswer r)) × (replyOf (signedOf (pageLength (pageAnswer r))) ≡ pageLength (pageAnswer r))
 page-told (Written codes bytes) = (refl, refl)
 page-told (Refused c) = (refusal-told c, refusal-told c)
+
+-- and those of a code with the greatest period
+pub greatest-told : (r : GreatestPeriod) → (replyOf (signedOf (codeLength (greatestAnswer r))) ≡ codeLength (greatestAnswer r))
+    × (replyOf (signedOf (codePeriod (greatestAnswer r))) ≡ codePeriod (greatestAnswer r))
+greatest-told (CodeWritten length period) = (refl, refl)
+greatest-told (NoCode c) = (refusal-told c, refusal-told c)

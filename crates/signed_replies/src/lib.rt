@@ -1,4 +1,5 @@
-// Each reply of the engine as a signed number, that of a page as two, for callers in C: what was counted as it is, a refusal as minus the number of its cause.
+// Each reply of the engine as a signed number, those of a page and of the greatest period as two, for callers in C: what was counted as it is, a refusal as minus the number of its cause.
+use patterns::GreatestPeriod;
 use patterns::Isomorphism;
 use patterns::Page;
 use patterns::Predecessor;
@@ -11,8 +12,8 @@ ghost use mathlib.Core.Path.{_≡_};
 ghost use lib.IntN.{pos};
 ghost use mir.Syntax.{w64};
 ghost use mir.Val.{SFits};
-ghost use Rattle.patterns.specs.Replies.{Answer.refused, numberOf, answerOf, successorAnswer, predecessorAnswer, pageAnswer, isomorphismAnswer, partAnswer, quantityAnswer};
-ghost use Rattle.patterns.specs.SignedReplies.{signedOf, pageCount, pageLength};
+ghost use Rattle.patterns.specs.Replies.{Answer.refused, numberOf, answerOf, successorAnswer, predecessorAnswer, pageAnswer, isomorphismAnswer, partAnswer, quantityAnswer, greatestAnswer};
+ghost use Rattle.patterns.specs.SignedReplies.{signedOf, pageCount, pageLength, codeLength, codePeriod};
 ghost use Rattle.signed_replies.specs.PartNumbers.{startIn, endIn, turnsIn};
 
 // The number of a refusal: minus the number of its cause.
@@ -117,6 +118,30 @@ pub fn quantity_number(reply: Quantity) -> i64
     match reply {
         Quantity::Number(n) => amount(n),
         Quantity::Refused(cause) => refusal(cause),
+    }
+}
+
+// The two numbers of a code with the greatest period: how many bytes it has and what its period is, or a refusal in both.
+#[repr(C)]
+pub struct GreatestReply {
+    pub length: i64,
+    pub period: i64,
+}
+
+// The numbers of what the entry of the greatest period replied.
+pub fn greatest_numbers(reply: GreatestPeriod) -> GreatestReply
+    requires { ⌜ (SFits w64 (signedOf (codeLength (greatestAnswer reply)))) × (SFits w64 (signedOf (codePeriod (greatestAnswer reply)))) ⌝ }
+    ensures { λ r. ⌜ (r .length ≡ signedOf (codeLength (greatestAnswer reply))) × (r .period ≡ signedOf (codePeriod (greatestAnswer reply))) ⌝ }
+{
+    match reply {
+        GreatestPeriod::Written(length, period) => GreatestReply {
+            length: counted(length),
+            period: amount(period),
+        },
+        GreatestPeriod::Refused(cause) => GreatestReply {
+            length: refusal(cause),
+            period: refusal(cause),
+        },
     }
 }
 

@@ -74,10 +74,6 @@ pub flat-cycles : (sizes : List ℕ) → gather flat (map cycle sizes) ≡ repli
 flat-cycles [] = refl
 flat-cycles (s ∷ sizes) = rw (flat-cycle s, flat-cycles sizes) (replicate-append-replicate s (sum sizes) 1)
 
-pub cycles-points : (sizes : List ℕ) → map points (map cycle sizes) ≡ sizes
-cycles-points [] = refl
-cycles-points (s ∷ sizes) = ap₂ _∷_ (cycle-points s) (cycles-points sizes)
-
 -- as long as the component already
 pub fill-again : (d : List ℕ) (s : ℕ) → length d ≡ s → fillTrees d s ≡ d
 fill-again d s e = rw (eq-eqb (length d) s e)

@@ -13,7 +13,7 @@ use Rattle.lists.specs.Select.{keep, gather, total, range, first}
 use Rattle.lists.proofs.Tests.{_∈_, by-test, either, or-true}
 use Rattle.lists.proofs.Comparison.{compare-self}
 use Rattle.lists.proofs.Lex.{lex-cons-lt, lex-cons-eq}
-use Rattle.lists.proofs.Members.{in-head, in-single, not-in-nil, in-list, in-keep, of-keep, in-range, of-range, in-map, of-map, in-gather, of-gather, keep-append}
+use Rattle.lists.proofs.Members.{in-head, in-cons-cases, in-single, not-in-nil, in-list, in-keep, of-keep, in-range, of-range, in-map, of-map, in-gather, of-gather, keep-append}
 use Rattle.lists.proofs.Places.{range-append}
 use Rattle.lists.proofs.Rising.{Rising, rising-nil, rising-single, rising-keep, rising-range, rising-map, rising-gather-rising}
 use Rattle.lists.proofs.Follow.{Within, first-map, first-gather, within-head, within-map, within-gather}
@@ -38,6 +38,11 @@ upward-tail (upward-cons h u) = u
 pub upward-from : {a b : ℕ} {l : List ℕ} → a ≤ b → Upward b l → Upward a l
 upward-from h upward-nil = upward-nil
 upward-from {a} h (upward-cons {b = c} k u) = let i : a ≤ c = omega arith in upward-cons i u
+
+-- it is one of every number
+pub upward-member : {a x : ℕ} {l : List ℕ} → Upward a l → x ∈ l → a ≤ x
+upward-member upward-nil m = not-in-nil m
+upward-member (upward-cons h u) m = either (in-cons-cases m) (λ e. omega arith) (λ i. omega (arith, upward-member u i))
 
 or-right : (a b : Bool) → b ≡ true → (a || b) ≡ true
 or-right true b e = refl

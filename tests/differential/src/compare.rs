@@ -1,10 +1,10 @@
 //! One call of both sides: the replies and the whole lent buffers, with the bytes around them, have to agree.
 
 use sides::maps::is_isomorphism;
-use sides::{PageReply, Side, ENGINE, REFERENCE};
+use sides::{written, GreatestReply, PageReply, Side, ENGINE, REFERENCE};
 use std::fmt::Write;
 
-pub const ENTRIES: [&str; 17] = [
+pub const ENTRIES: [&str; 18] = [
     "accept",
     "first",
     "successor",
@@ -18,6 +18,7 @@ pub const ENTRIES: [&str; 17] = [
     "census",
     "height",
     "period",
+    "greatest_period",
     "component_start",
     "component_end",
     "component_turns",
@@ -27,16 +28,24 @@ pub const ENTRIES: [&str; 17] = [
 /// The bytes in front of a lent buffer and behind it.
 const MARGIN: usize = 16;
 
-/// A buffer and its margins. No result is likely to have these bytes.
+/// What buffers are filled with, unless another filling is asked for.
+pub const FILLING: u8 = 0xa5;
+
+/// A buffer and its margins. No result is likely to have these bytes; with another filling all of them are others.
 #[derive(PartialEq)]
 struct Lent {
     bytes: Vec<u8>,
     room: usize,
+    filling: u8,
 }
 
 impl Lent {
     fn new(room: usize) -> Lent {
-        Lent { bytes: (0..room + 2 * MARGIN).map(|i| (i as u8).wrapping_mul(37) ^ 0xa5).collect(), room }
+        Lent::filled(room, FILLING)
+    }
+
+    fn filled(room: usize, filling: u8) -> Lent {
+        Lent { bytes: (0..room + 2 * MARGIN).map(|i| (i as u8).wrapping_mul(37) ^ filling).collect(), room, filling }
     }
 
     fn holding(bytes: &[u8]) -> Lent {
@@ -55,7 +64,7 @@ impl Lent {
 
     /// The first places, if all other bytes are as they were.
     fn only_first(&self, places: usize) -> Option<&[u8]> {
-        let untouched = Lent::new(self.room);
+        let untouched = Lent::filled(self.room, self.filling);
         let end = MARGIN + places;
         let kept = places <= self.room && self.bytes[..MARGIN] == untouched.bytes[..MARGIN] && self.bytes[end..] == untouched.bytes[end..];
         kept.then(|| &self.bytes[MARGIN..end])
@@ -69,6 +78,12 @@ pub fn page(side: &Side, code: &[u8], wanted: usize, room: usize) -> Page {
     let mut lent = Lent::new(room);
     let reply = (side.page)(code, wanted, lent.out());
     (reply, lent.only_first(reply.bytes.max(0) as usize).map(<[u8]>::to_vec))
+}
+
+/// Whether both sides accept a code with n points, and find this period in its map.
+fn has_period(code: &[u8], n: usize, period: i64) -> bool {
+    let found = |side: &Side| written(|out| (side.map_of_code)(code, out)).map(|table| (side.period)(&table));
+    [ENGINE, REFERENCE].iter().all(|side| (side.accept)(code) == n as i64 && found(side) == Ok(period))
 }
 
 /// What has been compared so far.
@@ -191,6 +206,21 @@ impl Comparison {
 
     pub fn period(&mut self, table: &[u8]) {
         self.kept("period", table, |side, table| (side.period)(table));
+    }
+
+    /// A side tells of n points the expected period, or is refused as expected. Which code it writes is left open, so it is read by both sides.
+    pub fn greatest_as(&mut self, side: &Side, n: usize, (room, filling): (usize, u8), expected: Result<i64, i64>) {
+        let mut lent = Lent::filled(room, filling);
+        let reply = (side.greatest_period)(n, lent.out());
+        let written = lent.only_first(reply.length.max(0) as usize);
+        let good = match (written, expected) {
+            (Some(code), Ok(period)) => reply.period == period && has_period(code, n, period),
+            (Some(_), Err(refusal)) => reply == GreatestReply { length: refusal, period: refusal },
+            (None, _) => false,
+        };
+        self.count("greatest_period", good, |text| {
+            write!(text, "{} {reply:?}, expected {expected:?}, {n} points, room {room}, filling {filling}, written {written:?}", side.name).unwrap()
+        });
     }
 
     /// Both ends of a component, and its turns.

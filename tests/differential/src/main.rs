@@ -3,6 +3,7 @@
 //! It is given the directory of the cases of `tools/plain_model.py`, prints the number of calls of each entry, and fails if an answer differs.
 
 mod compare;
+mod greatest;
 mod inputs;
 mod laws;
 mod model;
@@ -569,6 +570,7 @@ fn main() -> ExitCode {
     table_counts(comparison, random, 2_000);
     tables_of_sums(comparison, random, 20_000);
     periods::run(comparison, random);
+    greatest::run(comparison, random);
     if report(comparison, laws) {
         ExitCode::SUCCESS
     } else {

@@ -1,6 +1,6 @@
 //! The cases in `crates/checks/data`, made by `tools/plain_model.py`, a third implementation: both sides have to answer them. `tools/README.md` has the format.
 
-use crate::compare::Comparison;
+use crate::compare::{Comparison, FILLING};
 use sides::maps::is_isomorphism;
 use sides::{written, PageReply, Side, ENGINE, FIRST, LAST, NONE, REFERENCE};
 use std::fmt::Write;
@@ -107,6 +107,17 @@ fn page(comparison: &mut Comparison, line: &str) {
     }
 }
 
+/// One line of the file of greatest periods.
+fn greatest(comparison: &mut Comparison, line: &str) {
+    let mut words = Line(line.split_whitespace());
+    let (n, room) = (words.number(), words.number());
+    let (kind, value) = (words.number(), words.number() as i64);
+    let expected = if kind == 0 { Ok(value) } else { Err(-value) };
+    for side in [&ENGINE, &REFERENCE] {
+        comparison.greatest_as(side, n, (room, FILLING), expected);
+    }
+}
+
 /// One line of the file of components. Both ends are told by the start and by the bytes that are shown.
 fn component(comparison: &mut Comparison, line: &str) {
     let mut words = Line(line.split_whitespace());
@@ -165,6 +176,7 @@ pub fn run(comparison: &mut Comparison, data: &Path) {
     for name in ["pages", "pages_long"] {
         read(name).lines().for_each(|line| page(comparison, line));
     }
+    read("greatest").lines().for_each(|line| greatest(comparison, line));
     read("components").lines().for_each(|line| component(comparison, line));
     read("pairs").lines().for_each(|line| pair(comparison, line));
     for n in 0..=8 {

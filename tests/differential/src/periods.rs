@@ -14,7 +14,7 @@ fn expect(comparison: &mut Comparison, law: &str, table: &[u8], expected: usize)
     comparison.count("period", found == expected as i64, |text| write!(text, "{law}: {found}, {expected}, map {table:?}").unwrap());
 }
 
-fn lcm(a: usize, b: usize) -> usize {
+pub fn lcm(a: usize, b: usize) -> usize {
     a / gcd(a, b) * b
 }
 
@@ -106,7 +106,7 @@ fn filled(n: usize, lengths: &[usize], random: &mut Random) -> Vec<u8> {
 }
 
 /// A map of n points with cycles of lengths by chance, short ones or any.
-fn by_cycles(n: usize, random: &mut Random) -> Vec<u8> {
+pub fn by_cycles(n: usize, random: &mut Random) -> Vec<u8> {
     let (mut lengths, mut left, most) = (Vec::new(), random.below(n + 1), *random.pick(&[3, 6, 12, 30, 200]));
     while left > 0 {
         lengths.push(1 + random.below(left.min(most)));

@@ -5,7 +5,8 @@ use lib.ListN.{take, replicate}
 use Rattle.system_theory.specs.Step.{nextSizes, cycle, bump, step}
 use Rattle.system_theory.proofs.Step.{step-keeps}
 use Rattle.system_theory.proofs.StepScan.{step-bump, step-sizes, step-none}
-use Rattle.size_lists.proofs.Filling.{flat-cycles, cycles-points}
+use Rattle.component_theory.proofs.Generation.{cycles-points}
+use Rattle.size_lists.proofs.Filling.{flat-cycles}
 use Rattle.stepping.proofs.Stepping.{Parts, Other, step-count, step-held, step-room, step-same, step-ends, step-other, other-sum, step-filled}
 use borrow.Author.Needs.{needs}
 use Rattle.stepping.proofs.next_system.Statement.{statement}

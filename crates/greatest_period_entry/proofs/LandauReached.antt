@@ -13,21 +13,21 @@ use Rattle.lists.proofs.Members.{in-range}
 use Rattle.lists.proofs.Places.{range-length, getD-range}
 use Rattle.lists.proofs.Gathering.{getD-map}
 use Rattle.system_theory.proofs.Sizes.{Upward, upward-nil, upward-cons, upward-from, sum}
 use Rattle.period_theory.specs.Multiples.{lcmFrom}
 use Rattle.period_theory.specs.Landau.{landau}
-use Rattle.period_theory.specs.LandauLengths.{masks, maskLengths, longLengths, landauLengths}
+use Rattle.greatest_period_entry.specs.LandauLengths.{masks, maskLengths, longLengths, landauLengths}
 
--- the lengths of a number rise
-mask-upward : (i k m : ℕ) → Upward k (maskLengths i k m)
+-- the lengths of a number rise, before greater ones
+mask-upward : (i m : ℕ) {l : List ℕ} → Upward (suc (suc i)) l → Upward 2 (maskLengths i m l)
 unfolding maskLengths
-mask-upward zero k m = upward-nil
-mask-upward (suc i) k m =
-    let more : Upward k (maskLengths i (suc k) (m / 2)) = upward-from (omega arith) (mask-upward i (suc k) (m / 2)) in
-    by-test (eqb (m % 2) 1) (λ t. rw t (upward-cons {a = k} {b = k} (omega arith) more)) (λ t. rw t more)
+mask-upward zero m u = u
+mask-upward (suc i) m u =
+    let later = upward-from {a = suc (suc i)} (omega arith) u in
+    by-test (eqb (m % 2) 1) (λ t. rw t (mask-upward i (m / 2) (upward-cons (omega arith) later))) (λ t. rw t (mask-upward i (m / 2) later))
 
 long-upward : (n : ℕ) → Upward 2 (longLengths n)
 unfolding longLengths
-long-upward n = mask-upward 28 2 (getD masks n 0)
+long-upward n = mask-upward 28 (getD masks n 0) upward-nil
 
 -- Fixed points before other lengths.
 ones-upward : (j : ℕ) {l : List ℕ} → Upward 1 l → Upward 1 (replicate j 1 ++ l)
@@ -61,11 +61,12 @@ unfolding landauLengths
 landau-upward n = ones-upward (n - sum (longLengths n)) (upward-from (omega arith) (long-upward n))
 
 module _ (n : ℕ) (small : n ≤ 120) where
+  pub long-fits : sum (longLengths n) ≤ n
+  long-fits = leb-true (sum (longLengths n)) n (each-member (λ n. leb (sum (longLengths n)) n) long-fit (in-range 0 121 {x = n} (omega arith) (omega arith)))
+
   pub landau-sum : sum (landauLengths n) ≡ n
   unfolding landauLengths
-  landau-sum =
-      ones-fill n (longLengths n)
-      (leb-true (sum (longLengths n)) n (each-member (λ n. leb (sum (longLengths n)) n) long-fit (in-range 0 121 {x = n} (omega arith) (omega arith))))
+  landau-sum = ones-fill n (longLengths n) long-fits
 
   pub landau-lcm : lcmFrom 1 (landauLengths n) ≡ getD landau n 0
   unfolding landauLengths

@@ -3,9 +3,9 @@ use Prim.Native.Nat.{_-_}
 use lib.ListN.{length}
 use native.Mathlib.Omega.{arith}
 use borrow.Author.Needs.{needs}
-use Rattle.period_entry.proofs.LcmSteps.{Gathered, gathered-start, gathered-asked, gathered-next, gathered-end}
-use Rattle.period_entry.proofs.lcm_of_all.Statement.{statement}
-use Rattle.period_entry.proofs.lcm_of_all.Tie as tie
+use Rattle.multiples.proofs.LcmSteps.{Gathered, gathered-start, gathered-asked, gathered-next, gathered-end}
+use Rattle.multiples.proofs.lcm_of_all.Statement.{statement}
+use Rattle.multiples.proofs.lcm_of_all.Tie as tie
 
 abbrev Inv-loop : tie.InvT-loop
 Inv-loop s multiple₀ i₀ multiple i = Gathered s i multiple

@@ -2,9 +2,9 @@ use mathlib.Core.Path.{_≡_}
 use Prim.Native.Nat.{_+_, _-_, _%_, _≤_}
 use native.Mathlib.Omega.{arith}
 use Rattle.period_theory.specs.Multiples.{lcm}
-use Rattle.period_entry.proofs.LcmSteps.{Climbing, climbing-start, climbing-room, climbing-next, climbing-end}
-use Rattle.period_entry.proofs.lcm.Statement.{statement}
-use Rattle.period_entry.proofs.lcm.Tie as tie
+use Rattle.multiples.proofs.LcmSteps.{Climbing, climbing-start, climbing-room, climbing-next, climbing-end}
+use Rattle.multiples.proofs.lcm.Statement.{statement}
+use Rattle.multiples.proofs.lcm.Tie as tie
 
 abbrev Inv-loop : tie.InvT-loop
 Inv-loop a b multiple₀ multiple = Climbing a b multiple

@@ -8,13 +8,15 @@ use native.Mathlib.Omega.{arith}
 use lib.ListN.{length, getD, take, drop, take-append-drop}
 use lib.Seq.{take-suc, take-all}
 use lib.Dec.{ltb, eqb}
-use borrow.Author.Tests.{ltb-true, eqb-true, eqb-false}
-use Rattle.lists.proofs.Tests.{by-test, each-member}
+use borrow.Author.Tests.{lt-ltb, ltb-true, eqb-true, eqb-false}
+use Rattle.lists.specs.Select.{total}
+use Rattle.lists.proofs.Tests.{by-test, each-true, each-member}
 use Rattle.lists.proofs.Members.{in-list, in-append-left}
 use Rattle.lists.proofs.Places.{in-index}
 use Rattle.period_theory.specs.Multiples.{lcm, lcmFrom}
 use Rattle.period_theory.proofs.CommonMultiples.{Positive, Inside, lcm-positive, lcm-left, lcm-right, lcm-divides, lcms-positive, lcms-inside, lcms-snoc}
-use Rattle.period_entry.specs.FittingMultiples.{LcmAsked, LcmsAsked}
+use Rattle.period_theory.proofs.LandauBound.{lcm-below}
+use Rattle.multiples.specs.FittingMultiples.{LcmAsked, LcmsAsked}
 
 -- m is a multiple of a, not greater than the least common multiple with b
 pub record Climbing (a b m : ℕ) : Type 0 where
@@ -58,6 +60,14 @@ pub record Gathered (s : List ℕ) (i m : ℕ) : Type 0 where
 pub gathered-start : (s : List ℕ) → Gathered s 0 1
 unfolding lcmFrom
 gathered-start s = record { within = omega arith; so-far = refl }
+
+-- positive numbers that add up to at most 120 have one that fits
+pub few-asked : (s : List ℕ) → Positive s → total (λ x. x) s ≤ 120 → LcmsAsked s
+few-asked s all h =
+    record {
+      positive = each-true (ltb 0) s (λ x m. lt-ltb 0 x (all x m));
+      fits = let b = lcm-below s all h in omega arith;
+    }
 
 positives : {s : List ℕ} → LcmsAsked s → Positive s
 positives a x m = ltb-true 0 x (each-member (ltb 0) (a .positive) m)
