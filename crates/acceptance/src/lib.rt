@@ -1,4 +1,6 @@
 // Accepting a written code: it is cut, read and tested.
+#![tactic(auto)]
+
 ghost use Rattle.std.specs.Prelude.{◌≡◌, length};
 ghost use Rattle.patterns.specs.Reading.{accepted};
 ghost use Rattle.reading.specs.Shape.{AcceptedInto};

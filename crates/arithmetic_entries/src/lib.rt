@@ -1,4 +1,6 @@
 // The public entries that give the sum and the product of two codes [document 02, paper 5]: the maps of both are made into one, and its code is written.
+#![tactic(auto)]
+
 ghost use Rattle.patterns.specs.Reading.{accepted};
 ghost use Rattle.patterns.specs.MapOf.{map_of};
 ghost use Rattle.patterns.specs.Entry.{Replied, outcome};

@@ -1,4 +1,6 @@
 // The next system with the same sizes, in place of the one in memory.
+#![tactic(auto)]
+
 ghost use Rattle.std.specs.Prelude.{◌∷◌, map};
 ghost use Rattle.patterns.specs.System.{System};
 ghost use Rattle.patterns.specs.Component.{Component, points};

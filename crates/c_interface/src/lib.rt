@@ -1,4 +1,6 @@
 // The entries of the engine for callers in C: numbers and byte slices in, one signed number out, of a page and of the greatest period two. Of each slice C hands over a pointer and a count.
+#![tactic(auto)]
+
 ghost use Rattle.std.specs.Prelude.{◌≡◌};
 ghost use Rattle.patterns.specs.Entry.{answer, accept_of, first_of, successor_of, code_of_map, map_of_code, height_of};
 ghost use Rattle.patterns.specs.Replies.{Answer.length_is};

@@ -1,4 +1,6 @@
 // The rows of the census of a map in running code [document 01, "Refusing", last but one paragraph]: which cycle lengths occur and how often.
+#![tactic(auto)]
+
 ghost use Rattle.std.specs.Prelude.{◌≡◌, ◌++◌, map, ◌<◌, ◌≤◌, length, take, drop, replicate};
 ghost use Rattle.tables.specs.Tables.{Table};
 ghost use Rattle.cycles.specs.Marks.{Marked};

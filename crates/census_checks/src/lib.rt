@@ -1,5 +1,7 @@
 // Compares both entries of the census, the list of structs and the two columns, with the cases of the census [tools/README.md], row by row. The cases of other entries
 // are passed over: crate `entry_checks` has them.
+#![tactic(auto)]
+
 ghost use Rattle.std.specs.Prelude.{◌≤◌, ◌≡◌, length};
 
 use case_text::lists::{FILLING, List};

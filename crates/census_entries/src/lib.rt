@@ -1,4 +1,6 @@
 // The census of a map, in a lent list of rows or in two lent columns, and its parts.
+#![tactic(auto)]
+
 ghost use Rattle.std.specs.Prelude.{◌≡◌, map, ◌≤◌, min, length};
 ghost use Rattle.patterns.specs.Entry.{CensusReplied, RowsReplied, ColumnsReplied, height_of};
 ghost use Rattle.patterns.specs.Replies.{answer_of, census_answer, row_of};

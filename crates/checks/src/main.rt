@@ -1,5 +1,7 @@
 // The comparisons of document 01, "The marker's guard", last paragraph: the examples, totals, a plain listing made by other means, damaged codes and hostile inputs
 // with the refusal of each, the component reader, and runs on maps of 200 points. Each group prints one line: of how many comparisons how many hold.
+#![tactic(auto)]
+
 use case_text::{numbers, scores};
 
 // The cases of a file.

@@ -1,5 +1,7 @@
 // A merge of two neighbouring trees of a component, where it is a child [document 004, Lemma 12].
 // A component is flat: a slice of as many bytes as it has points, the codes of its trees one after another.
+#![tactic(auto)]
+
 ghost use Rattle.std.specs.Prelude.{◌≡◌, ℕ, suc, ◌+◌, length};
 ghost use Rattle.lists.specs.Order.{at_most};
 ghost use Rattle.lists.specs.Select.{each, first};

@@ -1,4 +1,6 @@
 // The public entries that accept a written code, and that write the first code of a count of points.
+#![tactic(auto)]
+
 ghost use Rattle.std.specs.Prelude.{◌≡◌, ◌≤◌, length};
 ghost use Rattle.patterns.specs.Entry.{Replied, accept_of, first_of};
 ghost use Rattle.patterns.specs.Replies.{answer_of};

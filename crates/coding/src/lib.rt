@@ -1,4 +1,6 @@
 // From a table to its system, the labels of the points beside the trees.
+#![tactic(auto)]
+
 ghost use Rattle.std.specs.Prelude.{List, [], ◌∷◌, ℕ, ◌+◌, ◌<◌};
 ghost use Rattle.map_theory.specs.Plants.{plant_at, plants_along};
 ghost use Rattle.coding.specs.Writing.{TreeAsked, TreeOfLinks, CycleAsked, ComponentWritten};

@@ -1,4 +1,6 @@
 // The public entry that gives the code of a map.
+#![tactic(auto)]
+
 ghost use Rattle.patterns.specs.Written.{written as written_of};
 ghost use Rattle.patterns.specs.Table.{system_of_table};
 ghost use Rattle.patterns.specs.Entry.{Replied, Outcome.gives, code_of_map};

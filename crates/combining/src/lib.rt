@@ -1,4 +1,6 @@
 // One table made of two [document 02, paper 5].
+#![tactic(auto)]
+
 ghost use Rattle.std.specs.Prelude.{◌≡◌, map, ◌+◌, ◌≤◌};
 ghost use Rattle.written.specs.Putting.{placed};
 ghost use Rattle.combining.specs.declared.Operation.TheVariants.{Sum, Product};

@@ -1,5 +1,7 @@
 // The part of a written code that shows a component [document 01, "Refusing", last paragraph]: where it stands, how many of the
 // component's rotations equal it [document 02, paper 6], and its bytes in their place.
+#![tactic(auto)]
+
 ghost use Rattle.std.specs.Prelude.{◌≡◌, ◌+◌, ◌≤◌, length};
 ghost use Rattle.patterns.specs.Component.{Component, flat, rotation_symmetry};
 ghost use Rattle.patterns.specs.System.{System};

@@ -1,5 +1,7 @@
 // The component reader [document 01, "Refusing", last paragraph]: it shows the bytes of one component at a time, as a part of the code that it was
 // given. A reader is a code and a position. The functions over it are thin: what they answer is found by functions on a slice and a number.
+#![tactic(auto)]
+
 ghost use Rattle.std.specs.Prelude.{◌≡◌};
 ghost use Rattle.patterns.specs.Replies.{part_answer};
 ghost use Rattle.patterns.specs.Entry.{component_of, part_answered, Shown};

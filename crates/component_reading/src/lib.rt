@@ -1,4 +1,6 @@
 // Components of a written code, one after another, read into memory.
+#![tactic(auto)]
+
 ghost use Rattle.std.specs.Prelude.{drop};
 ghost use Rattle.patterns.specs.Reading.{read_components};
 ghost use Rattle.component_reading.specs.ReadComponents.{MemoryRoom, ReadInto};

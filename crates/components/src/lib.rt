@@ -1,4 +1,6 @@
 // One component, flat: a slice of as many bytes as it has points, the codes of its trees one after another.
+#![tactic(auto)]
+
 ghost use Rattle.std.specs.Prelude.{◌≡◌};
 ghost use Rattle.patterns.specs.Component.{Component, flat, valid_component};
 ghost use Rattle.memory.specs.Memory.{Held};
@@ -105,6 +107,6 @@ pub fn parent(s: &[u8], out: &mut [u8]) -> Climb
     requires { HeldBeside s.now out.old }
     ensures { (c : Component) → s.now ≡ flat c → Climbed c result out.new }
 {
-    bytes::copy(s, out);
+    lists::copy(s, out);
     unmerge(out)
 }

@@ -1,4 +1,6 @@
 // The line that the listing program reads: a count of points [document 01, "Sheet of examples"].
+#![tactic(auto)]
+
 ghost use Rattle.std.specs.Prelude.{◌≡◌};
 ghost use Rattle.count_line.specs.Count.{Reads};
 

@@ -1,4 +1,6 @@
 // The public entry that counts the tables with a code [document 02, paper 7].
+#![tactic(auto)]
+
 ghost use Rattle.std.specs.Prelude.{◌≡◌, ◌≤◌};
 ghost use Rattle.patterns.specs.System.{System};
 ghost use Rattle.patterns.specs.Replies.{quantity_answer, Answer.length_is};

@@ -1,4 +1,6 @@
 // The bytes of a written code, cut into numbers [document 01, "The written code"] in one pass [document 02, paper 4].
+#![tactic(auto)]
+
 ghost use Rattle.std.specs.Prelude.{◌-◌, ◌≤◌, ◌<◌, ◌≡◌, set};
 ghost use Rattle.patterns.specs.OnePass.{cut_step};
 ghost use Rattle.cutting.specs.Cutting.{step_reply, CutInto};

@@ -1,4 +1,6 @@
 // Tables: which points are on cycles.
+#![tactic(auto)]
+
 ghost use Rattle.std.specs.Prelude.{◌≡◌, ◌≤◌, length};
 ghost use Rattle.cycles.specs.Marks.{MarksAsked, Marked};
 ghost use Rattle.cycles.specs.Queue.{Queue};

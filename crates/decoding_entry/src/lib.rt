@@ -1,4 +1,6 @@
 // The public entry that gives a map of a code.
+#![tactic(auto)]
+
 ghost use Rattle.patterns.specs.System.{System};
 ghost use Rattle.patterns.specs.MapOf.{map_of};
 ghost use Rattle.patterns.specs.Entry.{Replied, Outcome.gives, map_of_code};

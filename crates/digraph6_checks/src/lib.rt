@@ -1,4 +1,6 @@
 // Compares the two entries of digraph6 lines, code to line and line to code, with cases [tools/README.md].
+#![tactic(auto)]
+
 mod cases;
 mod runs;
 

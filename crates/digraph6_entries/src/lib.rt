@@ -1,4 +1,6 @@
 // The public entries that write the map of a code as a digraph6 line, and read such a line as a code [document 02, paper 10].
+#![tactic(auto)]
+
 ghost use Rattle.patterns.specs.Digraph6.{digraph6_of_code, code_of_digraph6};
 ghost use Rattle.patterns.specs.Entry.{Replied};
 ghost use Rattle.patterns.specs.Replies.{answer_of};

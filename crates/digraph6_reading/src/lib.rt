@@ -1,4 +1,6 @@
 // Reads a digraph6 line [document 02, paper 10]: the checks of the paper in its order.
+#![tactic(auto)]
+
 mod bits;
 mod sizes;
 

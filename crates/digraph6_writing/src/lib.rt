@@ -1,4 +1,6 @@
 // Writes the digraph6 line of a map [document 02, paper 10]: &, the number of points, and the adjacency matrix, six bits to a byte.
+#![tactic(auto)]
+
 ghost use Rattle.std.specs.Prelude.{◌≡◌, ◌∷◌, ◌≤◌, ◌<◌, length};
 ghost use Rattle.patterns.specs.Digraph6.{size_field, body_length, packed, matrix, digraph6};
 ghost use Rattle.patterns.specs.Entry.{Replied, Outcome.gives};

@@ -1,5 +1,7 @@
 // How far the points of a table are from their cycles. A list notes one more than the distance of a point, or 0 where it is not known yet; the marks of the
 // points on cycles are such a list. So every point is walked over at most twice.
+#![tactic(auto)]
+
 ghost use Rattle.std.specs.Prelude.{◌≡◌, length};
 ghost use Rattle.patterns.specs.Table.{image};
 ghost use Rattle.patterns.specs.Census.{steps_to_cycle, height as height_of};

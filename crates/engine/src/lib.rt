@@ -1,5 +1,7 @@
 // The public entries of the marking engine. None relies on its caller: whatever tables, bytes and buffers come in, the reply and the content of every lent
 // buffer are those of the definitions [crates/patterns/specs/Entry.antt].
+#![tactic(auto)]
+
 pub use arithmetic_entries::{product, sum};
 pub use census_entries::{census, census_columns, cycle_columns, height};
 pub use code_entries::{accept, first};

@@ -1,4 +1,6 @@
 // The system before with the same sizes, in place of the one in memory.
+#![tactic(auto)]
+
 ghost use Rattle.std.specs.Prelude.{◌≡◌, [], ◌∷◌, map, get_or};
 ghost use Rattle.lists.specs.Order.{same};
 ghost use Rattle.lists.specs.Select.{left_of};
@@ -10,7 +12,7 @@ ghost use Rattle.memory.specs.Memory.{Holds};
 ghost use Rattle.bumping.specs.HeldBumps.{HeldAhead, Advanced, HeldCanonical, Bumped};
 ghost use Rattle.falling.specs.HeldFalls.{HeldComponent};
 
-use bytes::copy;
+use lists::copy;
 use lists::equal;
 use lower_sizes::last_right;
 use succession::predecessor;

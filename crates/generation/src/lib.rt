@@ -1,5 +1,7 @@
 // The first child and the next sibling of a component in a direction [document 004, Lemma 12]: forward the children as they are, backward from the last to the
 // first. A component is flat: a byte for each point.
+#![tactic(auto)]
+
 ghost use Rattle.std.specs.Prelude.{◌≡◌};
 ghost use Rattle.patterns.specs.Component.{Component, flat};
 ghost use Rattle.component_theory.specs.Successor.{first_child, opening as opening_of};
@@ -7,7 +9,7 @@ ghost use Rattle.children.specs.Candidates.{Gave};
 ghost use Rattle.scanning.specs.HeldNodes.{Node, AsLong};
 ghost use Rattle.generation.specs.Siblings.{ChildKey, child_beside, Beside};
 
-use bytes::copy;
+use lists::copy;
 use components::{Climb, parent};
 use scanning::{scan, scan_down};
 use trees::count;

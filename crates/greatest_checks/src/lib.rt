@@ -1,6 +1,8 @@
 // Compares the entry that writes a code with the greatest period with cases: a number of points, the room, and the period or the refusal that must be told
 // [tools/README.md]. Which code is written is open, so it is compared with none: it must be accepted with that number of points, and its map must have as many
 // and that period.
+#![tactic(auto)]
+
 use case_calls::{answers, calls};
 use case_text::lists::List;
 use case_text::scores::Score;

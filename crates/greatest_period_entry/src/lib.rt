@@ -1,4 +1,6 @@
 // The public entry that writes a code with the greatest period of its number of points [document 02, paper 9: the system that runs longest].
+#![tactic(auto)]
+
 mod masks;
 
 ghost use Rattle.std.specs.Prelude.{◌≡◌, map, ◌≤◌, length};

@@ -1,4 +1,6 @@
 // The public entry that gives an isomorphism between two maps.
+#![tactic(auto)]
+
 ghost use Rattle.std.specs.Prelude.{◌≡◌, ◌&&◌, take};
 ghost use Prim.Native.Nat.{◌≤◌, compare as compare_numbers};
 ghost use Rattle.lists.specs.Order.{lex, same};

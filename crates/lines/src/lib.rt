@@ -1,4 +1,6 @@
 // The lines of the listing program, put at a place of a lent buffer.
+#![tactic(auto)]
+
 ghost use Rattle.std.specs.Prelude.{◌≡◌, ◌+◌, ◌*◌, ◌≤◌, ◌<◌, length};
 ghost use Rattle.lists.specs.Select.{gather};
 ghost use Rattle.patterns.specs.ListingText.{header, spaced, code_line, total_line};

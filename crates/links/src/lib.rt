@@ -1,4 +1,6 @@
 // Tables with their points on cycles marked: which points hang where, and which points lead a cycle.
+#![tactic(auto)]
+
 ghost use Rattle.std.specs.Prelude.{length};
 ghost use Rattle.patterns.specs.Table.{image};
 ghost use Rattle.links.specs.Links.{LinksAsked, Links};

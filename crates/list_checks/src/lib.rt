@@ -1,5 +1,7 @@
 // Compares the list of all codes with what is known by other means: how many codes it has, how many of them are connected and how many tables they have together, and
 // the text that the listing program writes. All uses of the crate `listing` stand here.
+#![tactic(auto)]
+
 pub mod programs;
 pub mod totals;
 

@@ -1,4 +1,6 @@
 // The listing program one line at a time: the state stands for the text that is still to come.
+#![tactic(auto)]
+
 ghost use Rattle.std.specs.Prelude.{◌≡◌, ◌+◌, ◌≤◌, length, drop};
 ghost use Rattle.patterns.specs.System.{codes};
 ghost use Rattle.patterns.specs.ListingText.{lines_after};

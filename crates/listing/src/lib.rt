@@ -1,4 +1,6 @@
 // The listing program [document 01, "Sheet of examples"]: it reads a count of points and writes every code of so many points, in the order of the list.
+#![tactic(auto)]
+
 ghost use Rattle.std.specs.Prelude.{◌≡◌, [], ◌≤◌, length};
 ghost use Rattle.patterns.specs.ListingText.{output_of};
 ghost use Rattle.lister.specs.Remaining.{remaining};

@@ -1,16 +1,14 @@
 -- The laws that the two functions rest on: comparing lists from an index on, and exchanging two neighbouring blocks by three reversals.
 use mathlib.Core.Path.{◌≡◌, ap, sym, ◌∙◌}
-use mathlib.Core.List.{List, [], ◌++◌, append_assoc}
+use mathlib.Core.List.{List, [], ◌++◌, append_assoc, reverse, reverse-append, reverse-reverse}
 use Prim.Native.Nat.{Ordering}
 use Prim.Native.Nat.{ℕ, suc, ◌+◌, ◌-◌, ◌≤◌, ◌<◌, compare}
 use native.Mathlib.Omega.{arith}
 use native.Mathlib.Numerals.{add-one}
 use lib.ListN.{length, get_or, take, drop, length-append, length-reverse, take-append-drop, drop_of_length-le}
-use lib.Seq.{slice, slice_empty, drop-cons, drop-append-le, length-take-le, length-slice, take_at, drop_at}
-use Rattle.bytes.specs.Bytes.{rev, slice as span}
-use Rattle.bytes.proofs.Laws.{rev-rev-append, split}
+use lib.Seq.{slice, slice_empty, drop-cons, drop-append-le, length-take-le, length-slice, take_at, drop_at, take-take}
 use Rattle.lists.specs.Order.{lex, then}
-use Rattle.lists.specs.Blocks.{exchanged}
+use Rattle.lists.specs.Blocks.{exchanged, reversed_between}
 use Rattle.lists.proofs.Comparison.{compare-lt, compare-gt, compare_self}
 
 module _ (s t : List ℕ) (i : ℕ) where
@@ -43,47 +41,48 @@ module _ (s t : List ℕ) (i : ℕ) where
   pub lex-ended : length s ≤ i → length t ≤ i → lex compare (drop i s) (drop i t) ≡ Ordering.eq
   lex-ended h k = rw (drop_of_length-le s h, drop_of_length-le t k)
 
--- what a reversal of the entries from f up to t leaves
-abbrev pub reversed_between : ℕ → ℕ → List ℕ → List ℕ
-reversed_between f t l = take f l ++ (rev (span f t l) ++ drop t l)
-
 -- reversing the second of three parts
-reversed_between_parts : (p q z : List ℕ) (f t : ℕ) → length p ≡ f → length p + length q ≡ t → reversed_between f t (p ++ (q ++ z)) ≡ p ++ (rev q ++ z)
-unfolding span
+reversed_between_parts : (p q z : List ℕ) (f t : ℕ) → length p ≡ f → length p + length q ≡ t → reversed_between f t (p ++ (q ++ z)) ≡ p ++ (reverse q ++ z)
 reversed_between_parts p q z f t e h =
     let w : p ++ (q ++ z) ≡ (p ++ q) ++ z = sym (append_assoc p q z) in
     let k : length (p ++ q) ≡ t = length-append p q ∙ h in
     let u : take t (p ++ (q ++ z)) ≡ p ++ q = ap (take t) w ∙ take_at (p ++ q) z t k in
-    let s : span f t (p ++ (q ++ z)) ≡ q = ap (drop f) u ∙ drop_at p q f e in
+    let s : slice f t (p ++ (q ++ z)) ≡ q = ap (drop f) u ∙ drop_at p q f e in
     let d : drop t (p ++ (q ++ z)) ≡ z = ap (drop t) w ∙ drop_at (p ++ q) z t k in
     rw (take_at p (q ++ z) f e, s, d)
 
-length-rev : (l : List ℕ) → length (rev l) ≡ length l
-unfolding rev
-length-rev l = length-reverse l
+-- two lists reversed, one after the other and then both
+reverse_reverse-append : (x y : List ℕ) → reverse (reverse x ++ reverse y) ≡ y ++ x
+reverse_reverse-append x y = rw (reverse-append (reverse x) (reverse y), reverse-reverse x, reverse-reverse y)
 
 -- the two middle parts of four change places
 swap-parts : (w x y z : List ℕ) (a b e : ℕ) → length w ≡ a → a + length x ≡ b → b + length y ≡ e
     → reversed_between a e (reversed_between b e (reversed_between a b (w ++ (x ++ (y ++ z))))) ≡ w ++ (y ++ (x ++ z))
 swap-parts w x y z a b e h k m =
-    ap (λ l. reversed_between a e (reversed_between b e l)) (reversed_between_parts w x (y ++ z) a b h (omega arith) ∙ sym (append_assoc w (rev x) (y ++ z)))
+    ap (λ l. reversed_between a e (reversed_between b e l)) (reversed_between_parts w x (y ++ z) a b h (omega arith) ∙ sym (append_assoc w (reverse x) (y ++ z)))
     ∙ ap (reversed_between a e)
-    (reversed_between_parts (w ++ rev x) y z b e
-    (omega (arith, length-append w (rev x), length-rev x))
-    (omega (arith, length-append w (rev x), length-rev x))
-    ∙ append_assoc w (rev x) (rev y ++ z)
-    ∙ ap (λ l. w ++ l) (sym (append_assoc (rev x) (rev y) z)))
-    ∙ reversed_between_parts w (rev x ++ rev y) z a e h (omega (arith, length-append (rev x) (rev y), length-rev x, length-rev y))
-    ∙ ap (λ l. w ++ (l ++ z)) (rev-rev-append x y)
+    (reversed_between_parts (w ++ reverse x) y z b e
+    (omega (arith, length-append w (reverse x), length-reverse x))
+    (omega (arith, length-append w (reverse x), length-reverse x))
+    ∙ append_assoc w (reverse x) (reverse y ++ z)
+    ∙ ap (λ l. w ++ l) (sym (append_assoc (reverse x) (reverse y) z)))
+    ∙ reversed_between_parts w (reverse x ++ reverse y) z a e h (omega (arith, length-append (reverse x) (reverse y), length-reverse x, length-reverse y))
+    ∙ ap (λ l. w ++ (l ++ z)) (reverse_reverse-append x y)
     ∙ ap (λ l. w ++ l) (append_assoc y x z)
+
+-- a list as the part up to a, the block and the rest
+take-drop-slice : (l : List ℕ) (a b : ℕ) → a ≤ b → l ≡ take a l ++ (slice a b l ++ drop b l)
+take-drop-slice l a b h =
+    let e : take b l ≡ take a l ++ slice a b l =
+    sym (take-append-drop a (take b l)) ∙ ap (λ r. r ++ slice a b l) (take-take a b l h) in
+    sym (take-append-drop b l) ∙ ap (λ r. r ++ drop b l) e ∙ append_assoc (take a l) (slice a b l) (drop b l)
 
 -- a list as its four parts
 parts : (l : List ℕ) (a b e : ℕ) → a ≤ b → b ≤ e → e ≤ length l → l ≡ take a l ++ (slice a b l ++ (slice b e l ++ drop e l))
-unfolding span
 parts l a b e h k m =
     let f : b ≤ length (take e l) = rw (length-take-le e l m) k in
     let d : drop b l ≡ slice b e l ++ drop e l = ap (drop b) (sym (take-append-drop e l)) ∙ drop-append-le b (take e l) (drop e l) f in
-    split l a b h ∙ ap (λ r. take a l ++ (slice a b l ++ r)) d
+    take-drop-slice l a b h ∙ ap (λ r. take a l ++ (slice a b l ++ r)) d
 
 -- reversing each block and then both exchanges them
 pub three-reversals : (l : List ℕ) (a b e : ℕ) → a ≤ b → b ≤ e → e ≤ length l → reversed_between a e (reversed_between b e (reversed_between a b l)) ≡ exchanged a b e l

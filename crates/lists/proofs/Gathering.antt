@@ -78,7 +78,7 @@ module _ {A : Type 0} where
       rw t (ap₂ ◌∷◌ q (keep-none p l (λ z k. by-test (p z) (λ u. absurd (nodup-head d (in_moved (h z (in_tail k) u ∙ sym q) k))) (λ u. u)))))
       (λ t. rw t (either (in-cons-cases m)
       (λ q. no_both (sym (ap p q) ∙ e) t)
-      (λ k. keep_one p (nodup-tail d) k e (λ z i u. h z (in_tail i) u))))
+      (λ k. keep_one p {l = l} (nodup-tail d) k e (λ z i u. h z (in_tail i) u))))
 
 -- a list of numbers that is not empty has a least member
 pub least-member : (x : ℕ) (l : List ℕ) → (y : ℕ) × (y ∈ (x ∷ l)) × ((z : ℕ) → z ∈ (x ∷ l) → y ≤ z)
@@ -127,7 +127,8 @@ get_d_map g (x ∷ l) zero d e h = refl
 get_d_map g (x ∷ l) (suc i) d e h = get_d_map g l i d e (omega arith)
 
 -- a piece of a gathered list without repetition has none
-pub nodup-piece : {A B : Type 0} (g : A → List B) {l : List A} {x : A} → NoDup (gather g l) → x ∈ l → NoDup (g x)
+pub nodup-piece : {A B : Type 0} (g : A → List B) {x : A} {l : List A} → NoDup (gather g l) → x ∈ l → NoDup (g x)
+nodup-piece {A = A} {B = B} g {l = []} d x6 = elim x6 [ ]
 nodup-piece g {l = y ∷ l} d (Memᴰ.head q) = rw q (nodup-left (g y) (gather g l) d)
 nodup-piece g {l = y ∷ l} d (Memᴰ.tail m) = nodup-piece g (nodup-right (g y) (gather g l) d) m
 

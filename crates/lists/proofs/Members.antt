@@ -63,7 +63,8 @@ module _ {A : Type 0} where
       either (in-append-cases l k) (λ i. in_append_left m i)
       (λ i. either (in-cons-cases i) (λ e. absurd (h e)) (λ j. in_append_right l j))
 
-  pub in-keep : (p : A → Bool) {l : List A} {x : A} → x ∈ l → p x ≡ true → x ∈ keep p l
+  pub in-keep : (p : A → Bool) {x : A} {l : List A} → x ∈ l → p x ≡ true → x ∈ keep p l
+  in-keep p {l = []} x6 e = elim x6 [ ]
   in-keep p {l = y ∷ l} (Memᴰ.head q) e = rw (sym (ap p q) ∙ e) (Memᴰ.head q)
   in-keep p {l = y ∷ l} (Memᴰ.tail m) e =
       by-test (p y) (λ t. rw t (Memᴰ.tail (in-keep p m e))) (λ t. rw t (in-keep p m e))
@@ -100,9 +101,10 @@ module _ {A : Type 0} where
       either (in-cons-cases m) (λ q. Memᴰ.head q)
       (λ k. in_tail (of-once c l (of-keep (λ z. not (same c y z)) (once c l) k).0))
 
-  pub in-once : {c : A → A → Ordering} → Decides c → {l : List A} {x : A} → x ∈ l → x ∈ once c l
+  pub in-once : {c : A → A → Ordering} → Decides c → {x : A} {l : List A} → x ∈ l → x ∈ once c l
+  in-once {c = c} w {x = x} {l = []} x3 = elim x3 [ ]
   in-once w {l = y ∷ l} (Memᴰ.head q) = Memᴰ.head q
-  in-once {c} w {l = y ∷ l} {x} (Memᴰ.tail m) =
+  in-once {c} w {x} {l = y ∷ l} (Memᴰ.tail m) =
       by-test (same c y x)
       (λ t. Memᴰ.head (sym (w.sound y x t)))
       (λ t. in_tail (in-keep (λ z. not (same c y z)) (in-once w m) (ap not t)))
@@ -191,7 +193,7 @@ nodup_range a zero = empty
 nodup_range a (suc k) = one {x = a} {l = range (suc a) k} (λ m. let r = of_range (suc a) k m in omega arith) (nodup_range (suc a) k)
 
 module _ {A B : Type 0} where
-  pub in_map : (f : A → B) {l : List A} {x : A} → x ∈ l → f x ∈ map f l
+  pub in_map : (f : A → B) {x : A} {l : List A} → x ∈ l → f x ∈ map f l
   in_map f (Memᴰ.head q) = Memᴰ.head (ap f q)
   in_map f (Memᴰ.tail m) = Memᴰ.tail (in_map f m)
 
@@ -202,7 +204,8 @@ module _ {A B : Type 0} where
       (λ q. (x, in_head, q))
       (λ k. let r = of_map f l k in (r.0, in_tail r.1, r.2))
 
-  pub in-gather : (f : A → List B) {l : List A} {x : A} {y : B} → x ∈ l → y ∈ f x → y ∈ gather f l
+  pub in-gather : (f : A → List B) {x : A} {l : List A} {y : B} → x ∈ l → y ∈ f x → y ∈ gather f l
+  in-gather f {l = []} {y = y} x6 k = elim x6 [ ]
   in-gather f {l = z ∷ l} (Memᴰ.head q) k = in_append_left (gather f l) (in_list (ap f q) k)
   in-gather f {l = z ∷ l} (Memᴰ.tail m) k = in_append_right (f z) (in-gather f m k)
 

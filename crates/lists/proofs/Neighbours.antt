@@ -22,7 +22,7 @@ module _ {A : Type 0} {c : A → A → Ordering} (w : Decides c) where
       (λ t. by-test (same c y z)
       (λ u. absurd (omega (arith, rw (t, u) at h)))
       (λ u. rw t
-      (in-from x (either (in-cons-cases m) (λ q. no_both (ap (same c y) (sym q) ∙ w.self y) u) (λ k. k)) (omega (arith, rw (t, u) at h)))))
+      (in-from x {l = l} (either (in-cons-cases m) (λ q. no_both (ap (same c y) (sym q) ∙ w.self y) u) (λ k. k)) (omega (arith, rw (t, u) at h)))))
 
   -- and the other way round
   pub of-from : (x : A) {l : List A} {y : A} → NoDup l → y ∈ from c x l → (y ∈ l) × (place c x l ≤ place c y l)
@@ -31,7 +31,7 @@ module _ {A : Type 0} {c : A → A → Ordering} (w : Decides c) where
       by-test (same c x z)
       (λ t. (rw t at m, rw t (omega arith)))
       (λ t.
-      let r = of-from x (nodup-tail d) (rw t at m) in
+      let r = of-from x {l = l} (nodup-tail d) (rw t at m) in
       by-test (same c y z)
       (λ u. absurd (nodup-head d (in_moved (w.sound y z u) r.0)))
       (λ u. (in_tail r.0, rw (t, u) (omega (arith, r.1)))))

@@ -43,7 +43,7 @@ module _ {A : Type 0} where
   total_mono f g (x ∷ l) h = omega (arith, h x (Memᴰ.head refl), total_mono f g l (λ y m. h y (Memᴰ.tail m)))
 
   -- no member weighs more than all
-  pub member-total : (g : A → ℕ) {l : List A} {x : A} → x ∈ l → g x ≤ total g l
+  pub member-total : (g : A → ℕ) {x : A} {l : List A} → x ∈ l → g x ≤ total g l
   member-total g (Memᴰ.head q) = omega (arith, ap g q)
   member-total g (Memᴰ.tail m) = omega (arith, member-total g m)
 
@@ -115,6 +115,7 @@ module _ {A : Type 0} where
 
   -- an entry moved to the front
   pub perm-front : {x : A} {l : List A} → x ∈ l → (m : List A) × Perm l (x ∷ m)
+  perm-front {x = x} {l = []} x3 = elim x3 [ ]
   perm-front {l = y ∷ l} (Memᴰ.head q) = (l, perm-path (ap (λ z. z ∷ l) (sym q)))
   perm-front {x} {l = y ∷ l} (Memᴰ.tail m) =
       let r = perm-front m in

@@ -18,6 +18,7 @@ use Rattle.lists.proofs.Members.{Decides, NoDup, one, empty, compare-decides, in
 module _ {A : Type 0} where
   -- a list, cut at one of its members
   pub in_split : {x : A} {l : List A} → x ∈ l → (a : List A) × (b : List A) × (l ≡ a ++ (x ∷ b))
+  in_split {l = []} x3 = elim x3 [ ]
   in_split {l = y ∷ l} (Memᴰ.head q) = ([], l, ap (λ z. z ∷ l) (sym q))
   in_split {l = y ∷ l} (Memᴰ.tail m) =
       let r = in_split m in
@@ -30,6 +31,7 @@ module _ {A : Type 0} where
   in-index (x ∷ l) (suc i) d h = in_tail (in-index l i d (omega arith))
 
   pub index_of : (d : A) {x : A} {l : List A} → x ∈ l → (i : ℕ) × (i < length l) × (get_or l i d ≡ x)
+  index_of d {l = []} x3 = elim x3 [ ]
   index_of d {l = y ∷ l} (Memᴰ.head q) = (zero, omega arith, sym q)
   index_of d {l = y ∷ l} (Memᴰ.tail m) =
       let r = index_of d m in
@@ -49,6 +51,7 @@ module _ {A : Type 0} where
 
     -- a list, cut where one of its members first stands
     pub first-split : {x : A} {l : List A} → x ∈ l → (a : List A) × (b : List A) × (l ≡ a ++ (x ∷ b)) × (x ∈ a → ⊥)
+    first-split {x = x} {l = []} x3 = elim x3 [ ]
     first-split {l = y ∷ l} (Memᴰ.head q) = ([], l, ap (λ z. z ∷ l) (sym q), λ m. not-in-nil m)
     first-split {x} {l = y ∷ l} (Memᴰ.tail m) =
         by-test (same c x y)
@@ -147,6 +150,7 @@ times-out x [] n = refl
 times-out x (y ∷ l) n = rw (same-apart compare-decides x y l n) (omega (arith, times-out x l (λ m. n (in_tail m))))
 
 pub times-in : {x : ℕ} {l : List ℕ} → x ∈ l → 0 < times x l
+times-in {x = x} {l = []} x3 = elim x3 [ ]
 times-in {x} {l = y ∷ l} (Memᴰ.head q) = rw (ap (same compare x) (sym q) ∙ compare-decides.self x) (omega arith)
 times-in {x} {l = y ∷ l} (Memᴰ.tail m) = omega (arith, times-in m)
 
@@ -155,6 +159,7 @@ in-of-times x l h = either (in-or-not compare-decides x l) (λ m. m) (λ n. let 
 
 -- once, where there is no repetition
 pub times-nodup : {x : ℕ} {l : List ℕ} → NoDup l → x ∈ l → times x l ≡ 1
+times-nodup {x = x} empty x4 = elim x4 [ ]
 times-nodup {x} (one {x = y} {l = l} n d) (Memᴰ.head q) =
     rw (ap (same compare x) (sym q) ∙ compare-decides.self x) (omega (arith, times-out x l (λ m. n (in_moved q m))))
 times-nodup {x} (one {x = y} {l = l} n d) (Memᴰ.tail m) =

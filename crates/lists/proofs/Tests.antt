@@ -94,7 +94,8 @@ module _ {A : Type 0} (p : A → Bool) where
   each-true (x ∷ l) h = each-cons l (h x (Memᴰ.head refl)) (each-true l (λ y m. h y (Memᴰ.tail m)))
 
   -- if `each` says true, every member passes
-  pub each_member : {l : List A} {x : A} → each p l ≡ true → x ∈ l → p x ≡ true
+  pub each_member : {x : A} {l : List A} → each p l ≡ true → x ∈ l → p x ≡ true
+  each_member {l = []} e x6 = elim x6 [ ]
   each_member {l = x ∷ l} e (Memᴰ.head q) = ap p q ∙ each-head x l e
   each_member {l = x ∷ l} e (Memᴰ.tail m) = each_member (each_tail x l e) m
 
@@ -115,7 +116,8 @@ module _ {A : Type 0} (p : A → Bool) where
       (λ f. let r = some-member l (rw f at e) in (r.0, Memᴰ.tail r.1, r.2))
 
   -- if some member passes, `some_of` says true
-  pub some-true : {l : List A} {x : A} → x ∈ l → p x ≡ true → some_of p l ≡ true
+  pub some-true : {x : A} {l : List A} → x ∈ l → p x ≡ true → some_of p l ≡ true
+  some-true {l = []} x6 e = elim x6 [ ]
   some-true {l = y ∷ l} (Memᴰ.head q) e = rw (sym (ap p q) ∙ e)
   some-true {l = y ∷ l} (Memᴰ.tail m) e = by-test (p y) (λ t. rw t) (λ f. rw f (some-true m e))
 

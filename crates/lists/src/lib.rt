@@ -1,8 +1,10 @@
 // Comparing two lists of bytes and whether they are the same, exchanging two neighbouring blocks of a lent slice, and setting all its places to one number.
-ghost use Rattle.std.specs.Prelude.{◌≡◌, length, replicate};
+#![tactic(auto)]
+
+ghost use Rattle.std.specs.Prelude.{◌≡◌, ◌++◌, drop, length, replicate};
 ghost use Prim.Native.Nat.{suc, ◌≤◌, ◌<◌, compare as compare_numbers};
 ghost use Rattle.lists.specs.Order.{lex, same};
-ghost use Rattle.lists.specs.Blocks.{ordering_of, exchanged};
+ghost use Rattle.lists.specs.Blocks.{ordering_of, exchanged, reversed_between};
 
 #[derive(Drop)]
 pub enum Order {
@@ -61,6 +63,24 @@ fn shift(s: &mut [u8], a: usize, b: usize)
     s[a] = x;
 }
 
+// The entries of `s` from `a` up to `b` in reverse order; nothing else moves.
+fn reverse(s: &mut [u8], a: usize, b: usize)
+    requires { (a ≤ b) × (b ≤ length s.old) }
+    ensures { s.new ≡ reversed_between a b s.old }
+{
+    s[a..b].reverse();
+}
+
+// Puts `s` into the first places of `out`, which has room for it, and answers its length.
+pub fn copy(s: &[u8], out: &mut [u8]) -> usize
+    requires { length s.now ≤ length out.old }
+    ensures count { result ≡ length s.now }
+    ensures output { out.new ≡ s.now ++ drop (length s.now) out.old }
+{
+    out[..s.len()].copy_from_slice(s);
+    s.len()
+}
+
 // The blocks a..b and b..e of `s` change places; nothing else moves. An empty first block costs nothing, and a second block of one byte, as of a tree of
 // one point, is moved past the first in one pass: both are what most calls meet.
 pub fn exchange(s: &mut [u8], a: usize, b: usize, e: usize)
@@ -73,9 +93,9 @@ pub fn exchange(s: &mut [u8], a: usize, b: usize, e: usize)
     if e - b == 1 {
         return shift(s, a, b);
     }
-    bytes::reverse(s, a, b);
-    bytes::reverse(s, b, e);
-    bytes::reverse(s, a, e);
+    reverse(s, a, b);
+    reverse(s, b, e);
+    reverse(s, a, e);
 }
 
 // Every number of `s` becomes `x`.

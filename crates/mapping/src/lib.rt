@@ -1,4 +1,6 @@
 // The map of a system: its points are 0, 1 and on, in the order in which the codes of its trees have them.
+#![tactic(auto)]
+
 ghost use Rattle.std.specs.Prelude.{◌≡◌, cond, ◌+◌, ◌<◌, ltb};
 ghost use Rattle.patterns.specs.Tree.{Tree, code};
 ghost use Rattle.patterns.specs.Component.{Component, flat, points as points_of};

@@ -1,4 +1,6 @@
 // Two lists of labels beside each other, and the table that sends each label of the first to the one beside it.
+#![tactic(auto)]
+
 ghost use Rattle.std.specs.Prelude.{◌≡◌, length};
 ghost use Rattle.patterns.specs.Replies.{answer_of, isomorphism_answer};
 ghost use Rattle.matching.specs.Sends.{Matched, Sends, SendsPut};

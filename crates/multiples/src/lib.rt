@@ -1,4 +1,6 @@
 // The least common multiple of two numbers, and of all numbers of a slice.
+#![tactic(auto)]
+
 ghost use Rattle.std.specs.Prelude.{◌≡◌};
 ghost use Rattle.period_theory.specs.Multiples.{lcm as lcm_of, lcm_from};
 ghost use Rattle.multiples.specs.FittingMultiples.{LcmAsked, LcmsAsked};

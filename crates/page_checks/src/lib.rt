@@ -1,4 +1,6 @@
 // Compares the page entry with cases: a code, how many codes are wanted, the room, the answer that must be given, and the bytes that must be written [tools/README.md].
+#![tactic(auto)]
+
 use case_text::lists::List;
 use case_text::scores::Score;
 use case_text::{lists, numbers, scores};

@@ -1,4 +1,6 @@
 // The public entry that writes a page of codes [document 02, paper 2]: page.
+#![tactic(auto)]
+
 ghost use Rattle.std.specs.Prelude.{◌≡◌, ltb, length, take};
 ghost use Rattle.patterns.specs.System.{System};
 ghost use Rattle.patterns.specs.Reading.{Result.done};

@@ -1,4 +1,6 @@
 // A page of codes [document 02, paper 2]: the codes that follow a system in memory, measured or written one after another.
+#![tactic(auto)]
+
 mod bytes;
 mod length;
 

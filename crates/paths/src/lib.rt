@@ -1,4 +1,6 @@
 // The path of a component, and which of two components comes first.
+#![tactic(auto)]
+
 ghost use Rattle.std.specs.Prelude.{◌≡◌, not, true, cond, eqb, length};
 ghost use Prim.Native.Nat.{◌%◌, compare as compare_numbers};
 ghost use Rattle.lists.specs.Blocks.{ordering_of};
@@ -76,7 +78,7 @@ pub fn path_of(s: &[u8], work: &mut [u8], keys: &mut [u16]) -> usize
     requires { HeldTrace s.now work.old keys.old }
     ensures { (c : Component) → s.now ≡ flat c → Traced c result keys.new }
 {
-    bytes::copy(s, work);
+    lists::copy(s, work);
     path_into(work, keys)
 }
 

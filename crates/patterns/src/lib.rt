@@ -1,5 +1,7 @@
 // The causes of a refusal [document 01, "Refusing", and document 02] with the numbers that these give them, the replies of the public entries, and room for a number
 // for each point of the largest map.
+#![tactic(auto)]
+
 mod reply;
 
 ghost use Rattle.std.specs.Prelude.{◌≡◌, length};

@@ -1,4 +1,6 @@
 // The public entry that tells the period of a map [document 02, paper 8: round length].
+#![tactic(auto)]
+
 ghost use Rattle.std.specs.Prelude.{◌≡◌, length};
 ghost use Rattle.patterns.specs.Table.{image};
 ghost use Rattle.patterns.specs.Replies.{quantity_answer, Answer.length_is};

@@ -1,4 +1,6 @@
 // The text of the listing in pieces: a lent buffer is filled with whole lines.
+#![tactic(auto)]
+
 ghost use Rattle.std.specs.Prelude.{◌≤◌, length};
 ghost use Rattle.lister.specs.Remaining.{remaining};
 ghost use Rattle.lister.specs.Good.{Good};

@@ -1,4 +1,6 @@
 // The step from a system in memory to the one before it in the list of all codes.
+#![tactic(auto)]
+
 ghost use Rattle.std.specs.Prelude.{take};
 ghost use Rattle.patterns.specs.System.{System};
 ghost use Rattle.system_theory.specs.StepBack.{step_back_of};

@@ -1,4 +1,6 @@
 // The public entry that gives the code before a code [document 02, paper 3]: predecessor.
+#![tactic(auto)]
+
 ghost use Rattle.std.specs.Prelude.{◌≡◌, take};
 ghost use Rattle.lists.specs.Select.{previous};
 ghost use Rattle.patterns.specs.System.{System, weight, codes, compare_system};

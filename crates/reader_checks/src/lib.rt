@@ -1,4 +1,6 @@
 // Compares the component reader with cases: a code and a position in it, the answer that must be given, and the bytes that must be shown [tools/README.md].
+#![tactic(auto)]
+
 use case_text::lists::List;
 use case_text::scores::Score;
 use case_text::{lists, numbers, scores};

@@ -1,5 +1,7 @@
 // Reading a written code into memory [document 01, "Refusing"]: the shape of the whole, left to right, the first fault deciding.
 // Whether the system is canonical is not asked here.
+#![tactic(auto)]
+
 ghost use Rattle.std.specs.Prelude.{◌≡◌, List, ℕ, length, take};
 ghost use Rattle.reading.specs.Shape.{shape, code_shape, kept_numbers, AcceptedInto};
 

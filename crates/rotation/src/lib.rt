@@ -1,4 +1,6 @@
 // Where the least rotation of a component begins.
+#![tactic(auto)]
+
 ghost use Rattle.std.specs.Prelude.{◌≡◌, ◌++◌, length, take, drop};
 ghost use Prim.Native.Nat.{◌≤◌, compare as compare_numbers};
 ghost use Rattle.lists.specs.Order.{lex, at_most};

@@ -1,4 +1,6 @@
 // Each reply of the engine as a signed number, those of a page and of the greatest period as two, for callers in C: what was counted as it is, a refusal as minus the number of its cause.
+#![tactic(auto)]
+
 ghost use Rattle.std.specs.Prelude.{◌≡◌, pos};
 ghost use Rattle.std.specs.Int.{w64};
 ghost use Rattle.std.proofs.Common.{SFits};

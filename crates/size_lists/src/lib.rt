@@ -1,4 +1,6 @@
 // The list of sizes of a system in memory: the first one of n points, the next one, and the components that fill it.
+#![tactic(auto)]
+
 ghost use Rattle.std.specs.Prelude.{◌≡◌, length, take};
 ghost use Rattle.std.proofs.Math.Option.{some};
 ghost use Rattle.lists.specs.Select.{first, gather};
@@ -47,7 +49,7 @@ fn fill(d: &[u8], out: &mut [u8])
     ensures { out.new ≡ fill_trees d.now (length out.old) }
 {
     if d.len() == out.len() {
-        bytes::copy(d, out);
+        lists::copy(d, out);
         return;
     }
     set_all(out, 1);

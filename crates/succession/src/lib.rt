@@ -1,5 +1,7 @@
 // What follows a component in generation order, and what stands before it [document 004, Theorem 13]. The two are one step in two directions: backward the children come
 // from the last to the first, and the depths change parts. A component is flat: a byte for each point.
+#![tactic(auto)]
+
 ghost use Rattle.std.specs.Prelude.{◌≡◌};
 ghost use Rattle.patterns.specs.Component.{Component, flat};
 ghost use Rattle.component_theory.specs.LocalStep.{early};
@@ -7,7 +9,7 @@ ghost use Rattle.component_theory.specs.Successor.{beyond_early, beyond_late, ne
 ghost use Rattle.children.specs.Candidates.{Gave};
 ghost use Rattle.scanning.specs.HeldNodes.{Node, AsLong};
 
-use bytes::copy;
+use lists::copy;
 use generation::{Sibling, first_child, next_sibling, opening};
 use trees::count;
 

@@ -1,4 +1,6 @@
 // The public entry that gives the code after a code: successor.
+#![tactic(auto)]
+
 ghost use Rattle.std.specs.Prelude.{◌≡◌, take};
 ghost use Rattle.lists.specs.Select.{next};
 ghost use Rattle.patterns.specs.System.{System, weight, codes, compare_system};

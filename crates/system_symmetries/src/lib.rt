@@ -1,4 +1,6 @@
 // How many isomorphisms a system of at most 15 points has to itself, component by component.
+#![tactic(auto)]
+
 ghost use Rattle.std.specs.Prelude.{◌≡◌, ◌≤◌, length};
 ghost use Rattle.patterns.specs.Component.{Component, flat, compare_component};
 ghost use Rattle.patterns.specs.System.{System};

@@ -1,6 +1,8 @@
 // A whole code in memory: whether it is canonical.
 //
 // A system is two lent slices: `sizes`, the points of each component, and `trees`, the components one after another.
+#![tactic(auto)]
+
 ghost use Rattle.std.specs.Prelude.{◌≡◌};
 ghost use Rattle.lists.specs.Order.{at_most};
 ghost use Rattle.patterns.specs.System.{System, compare_generated, canonical as canonical_system};

@@ -1,4 +1,6 @@
 // Tables of images as they come in: bytes that are points, at most 200.
+#![tactic(auto)]
+
 ghost use Rattle.std.specs.Prelude.{◌≡◌};
 ghost use Rattle.patterns.specs.Entry.{checked_table};
 ghost use Rattle.tables.specs.Tables.{table_reply};

@@ -1,4 +1,6 @@
 // The census of a map by value, for programs that have no list of structs of their own: the places of a list that was lent to the census entry, and its reply.
+#![tactic(auto)]
+
 ghost use Rattle.std.specs.Prelude.{◌≤◌};
 
 use patterns::{Census, Row};

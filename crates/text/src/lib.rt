@@ -1,4 +1,6 @@
 // Text put into a lent buffer from a place on. Each function answers the place after what it put.
+#![tactic(auto)]
+
 ghost use Rattle.std.specs.Prelude.{[], ◌∷◌, ◌+◌, ◌<◌, ◌≤◌, length};
 ghost use Rattle.patterns.specs.Decimal.{decimal as decimal_of};
 ghost use Rattle.text.specs.Added.{Added};

@@ -1,5 +1,7 @@
 // Reading trees and components of a written code [document 01, "Refusing"]: their shape, left to right, the first fault deciding. The
 // numbers of a component, which are bytes then, go into memory as they are.
+#![tactic(auto)]
+
 ghost use Rattle.std.specs.Prelude.{◌≡◌, ℕ, ◌+◌, ◌<◌, ◌≤◌, length, drop, get_or};
 ghost use Rattle.patterns.specs.Reading.{read_tree, read_branches, read_trees};
 ghost use Rattle.written.specs.Putting.{placed};

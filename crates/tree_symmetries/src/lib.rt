@@ -1,5 +1,7 @@
 // How many isomorphisms a tree has to itself, and how many the trees of a component have, each to itself. Nothing here is longer than 15 bytes, so that every number is at
 // most 15!.
+#![tactic(auto)]
+
 ghost use Rattle.std.specs.Prelude.{◌≡◌, ◌≤◌, length};
 ghost use Rattle.patterns.specs.Tree.{Tree, code, compare_tree};
 ghost use Rattle.patterns.specs.Component.{Component, flat};

@@ -1,4 +1,6 @@
 // Flat trees: a tree is the slice of its code, a byte for each point, and a component is the codes of its trees one after another.
+#![tactic(auto)]
+
 ghost use Rattle.std.specs.Prelude.{◌≡◌, ◌∷◌, length};
 ghost use Prim.Native.Nat.{compare as compare_numbers};
 ghost use Rattle.std.proofs.Math.Dec.{is_le};
@@ -11,7 +13,7 @@ ghost use Rattle.memory.specs.Memory.{Held, HeldTree};
 ghost use Rattle.trees.specs.Beginnings.{leading_points, last_start, star};
 ghost use Rattle.trees.specs.HeldNeighbours.{behind, HeldNeighbours};
 
-use bytes::copy;
+use lists::copy;
 use lists::{Order, compare, exchange};
 
 // Less or equal.

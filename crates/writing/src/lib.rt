@@ -1,5 +1,7 @@
 // The written code of a system in memory [document 01, "The written code"]: how long it is, where a component begins in it, and its bytes, at a place with
 // room for them or refused for want of room.
+#![tactic(auto)]
+
 ghost use Rattle.std.specs.Prelude.{◌≡◌, ◌≤◌, ◌+◌, ltb, length};
 ghost use Rattle.lists.specs.Select.{gather};
 ghost use Rattle.patterns.specs.Component.{Component, flat};

@@ -1,4 +1,6 @@
 // Bytes put into a lent buffer [document 01, "The written code"]: one number, and a result, or its refusal for want of room.
+#![tactic(auto)]
+
 ghost use Rattle.std.specs.Prelude.{◌<◌, ◌≤◌, ◌+◌, length};
 ghost use Rattle.patterns.specs.Written.{write_number};
 ghost use Rattle.patterns.specs.Entry.{Replied, Outcome.gives};
@@ -28,6 +30,6 @@ pub fn put(code: &[u8], out: &mut [u8]) -> Reply
     if out.len() < code.len() {
         return Reply::Refused(Refusal::Room);
     }
-    let length = bytes::copy(code, out);
+    let length = lists::copy(code, out);
     Reply::Length(length)
 }
