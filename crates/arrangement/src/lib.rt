@@ -42,7 +42,7 @@ pub fn insert_tree(trees: &mut [u8], labels: &mut [u8], start: usize, end: usize
 }
 
 // A place among components: how many stand before it, and how many points they have.
-#[derive(Drop)]
+#[derive(Clone, Copy)]
 pub struct Place {
     pub index: usize,
     pub at: usize,

@@ -12,7 +12,7 @@ pub const REFUSED: usize = 3;
 pub const FIRST_OF_LIST: usize = 4;
 
 // The kind, and the length, another number that was asked for, or the number of the cause.
-#[derive(Drop)]
+#[derive(Clone, Copy)]
 pub struct Answer {
     pub kind: usize,
     pub value: usize,

@@ -3,7 +3,7 @@ use crate::numbers;
 use libc::STDOUT_FILENO;
 
 // Of how many comparisons how many hold.
-#[derive(Drop)]
+#[derive(Clone, Copy)]
 pub struct Score {
     pub held: usize,
     pub total: usize,

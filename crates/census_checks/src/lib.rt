@@ -31,7 +31,7 @@ struct Columns {
 }
 
 // The case that begins at a place of a text: whether it is one of the census, whether it holds, and where the next one begins.
-#[derive(Drop)]
+#[derive(Clone, Copy)]
 struct Turn {
     known: bool,
     holds: bool,

@@ -7,7 +7,7 @@ ghost use Rattle.combining.specs.declared.Operation.TheVariants.{Sum, Product};
 ghost use Rattle.combining.specs.Combining.{points_of, table_of, ShiftAsked, CombineAsked};
 
 // Which table is made of two: that of both side by side, or that of pairs.
-#[derive(Drop)]
+#[derive(Clone, Copy)]
 pub enum Operation {
     Sum,
     Product,

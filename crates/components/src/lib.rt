@@ -12,14 +12,14 @@ use lists::{Order, compare, exchange};
 use trees::{at_most, count, last_branch, leading, valid_trees};
 
 // A step from a component to its parent: there is none, or the place of the component among its parent's candidates.
-#[derive(Drop)]
+#[derive(Clone, Copy)]
 pub enum Climb {
     Root,
     Key(usize),
 }
 
 // What the test of a component's rotations answers: none is less and so many of them equal it [document 02, paper 6: turns], or one is less.
-#[derive(Drop)]
+#[derive(Clone, Copy)]
 pub enum Rotation {
     Least(usize),
     Lesser,

@@ -5,7 +5,7 @@ ghost use Rattle.std.specs.Prelude.{◌≡◌};
 ghost use Rattle.count_line.specs.Count.{Reads};
 
 // What the input says: a count of points, or nothing that the program takes.
-#[derive(Drop)]
+#[derive(Clone, Copy)]
 pub enum Parsed {
     Count(usize),
     Bad,

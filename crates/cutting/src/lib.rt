@@ -9,7 +9,7 @@ use patterns::Refusal;
 
 // After one byte: a number that has ended, and 0; or the first byte of one that goes on, and the place of its next byte, 1. After a whole slice: how many
 // numbers, and its length. Or the cause of a refusal.
-#[derive(Drop)]
+#[derive(Clone, Copy)]
 pub enum Cut {
     Number(usize, usize),
     Refused(Refusal),

@@ -16,7 +16,7 @@ const IN: usize = 1;
 const BOTH: usize = 2;
 
 // The case that begins at a place of a text: whether it holds, and where the next one begins.
-#[derive(Drop)]
+#[derive(Clone, Copy)]
 struct Turn {
     holds: bool,
     next: usize,

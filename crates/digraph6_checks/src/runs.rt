@@ -3,7 +3,7 @@ use case_text::lists::List;
 use case_text::{lists, numbers};
 
 // How many bytes the runs have, and the place after them in the text.
-#[derive(Drop)]
+#[derive(Clone, Copy)]
 struct Laid {
     len: usize,
     next: usize,

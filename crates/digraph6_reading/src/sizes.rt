@@ -8,7 +8,7 @@ use digraph6_writing::size_length;
 use patterns::Refusal;
 
 // The number of points and how many bytes the size takes, or the cause of a refusal.
-#[derive(Drop)]
+#[derive(Clone, Copy)]
 pub enum Size {
     Read(usize, usize),
     Refused(Refusal),

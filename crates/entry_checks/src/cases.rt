@@ -10,7 +10,7 @@ use case_text::{lists, numbers};
 const CENSUS: usize = 7;
 
 // The case that begins at a place of a text: whether it is one of an entry of this crate, whether it holds, and where the next one begins.
-#[derive(Drop)]
+#[derive(Clone, Copy)]
 struct Turn {
     known: bool,
     holds: bool,

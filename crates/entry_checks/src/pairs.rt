@@ -9,7 +9,7 @@ use case_text::{lists, numbers, scores};
 const STEPS: usize = 1000;
 
 // Up to where the pairs were read, how many there are, and of how many each comparison holds.
-#[derive(Drop)]
+#[derive(Clone, Copy)]
 struct Runs {
     next: usize,
     pairs: usize,

@@ -15,7 +15,7 @@ use scanning::{scan, scan_down};
 use trees::count;
 
 // Beside a component: it has no parent, it is its parent's last child, or it has a next sibling.
-#[derive(Drop)]
+#[derive(Clone, Copy)]
 pub enum Sibling {
     Root,
     Last,

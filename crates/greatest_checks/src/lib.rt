@@ -17,7 +17,7 @@ const REFUSED: usize = 3;
 const ENOUGH: usize = 1000;
 
 // An answer as a case has it: its kind, and the period or the number of the refusal. Beside it the length of the code, which is 0 where none was written.
-#[derive(Drop)]
+#[derive(Clone, Copy)]
 struct Answer {
     kind: usize,
     value: usize,
@@ -34,7 +34,7 @@ struct Called {
 }
 
 // The case that begins at a place of a text: whether it holds, and where the next one begins.
-#[derive(Drop)]
+#[derive(Clone, Copy)]
 struct Turn {
     holds: bool,
     next: usize,

@@ -31,7 +31,7 @@ const LIMIT: usize = 10000;
 const MOST: usize = 100000000000;
 
 // How many codes a list has, how many of them have one component, and how many tables they have together.
-#[derive(Drop)]
+#[derive(Clone, Copy)]
 pub struct Tally {
     pub codes: usize,
     pub connected: usize,

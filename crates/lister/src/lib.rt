@@ -12,7 +12,7 @@ use engine::Successor;
 use patterns::Reply;
 
 // What comes next: the line `bad count`; the header of so many points; after so many lines the line of a code; the total of so many codes; nothing.
-#[derive(Drop)]
+#[derive(Clone, Copy)]
 pub enum Phase {
     Bad,
     Header(usize),

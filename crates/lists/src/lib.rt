@@ -6,7 +6,7 @@ ghost use Prim.Native.Nat.{suc, ◌≤◌, ◌<◌, compare as compare_numbers};
 ghost use Rattle.lists.specs.Order.{lex, same};
 ghost use Rattle.lists.specs.Blocks.{ordering_of, exchanged, reversed_between};
 
-#[derive(Drop)]
+#[derive(Clone, Copy)]
 pub enum Order {
     Less,
     Equal,

@@ -11,7 +11,7 @@ const WRITTEN: usize = 0;
 const REFUSED: usize = 3;
 
 // An answer as a case has it: its kind, and the numbers of codes and bytes, or the number of the refusal and 0.
-#[derive(Drop)]
+#[derive(Clone, Copy)]
 struct Answer {
     kind: usize,
     codes: usize,
@@ -29,7 +29,7 @@ struct Called {
 }
 
 // The case that begins at a place of a text: whether it holds, and where the next one begins.
-#[derive(Drop)]
+#[derive(Clone, Copy)]
 struct Turn {
     holds: bool,
     next: usize,

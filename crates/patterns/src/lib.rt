@@ -12,7 +12,7 @@ pub use reply::{
     Successor,
 };
 
-#[derive(Drop)]
+#[derive(Clone, Copy)]
 pub enum Refusal {
     Count,
     Image,

@@ -11,7 +11,7 @@ const PART: usize = 0;
 const REFUSED: usize = 3;
 
 // An answer as a case has it: its kind, the place where the part begins and the component's turns, or the number of the refusal and 0.
-#[derive(Drop)]
+#[derive(Clone, Copy)]
 struct Answer {
     kind: usize,
     value: usize,
@@ -19,7 +19,7 @@ struct Answer {
 }
 
 // The case that begins at a place of a text: whether it holds, and where the next one begins.
-#[derive(Drop)]
+#[derive(Clone, Copy)]
 struct Compared {
     holds: bool,
     next: usize,

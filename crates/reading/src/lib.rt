@@ -14,7 +14,7 @@ use tree_reading::Read;
 const KEPT: usize = 403;
 
 // The number of components and the number of points, or the cause of a refusal.
-#[derive(Drop)]
+#[derive(Clone, Copy)]
 pub enum Accepted {
     System(usize, usize),
     Refused(Refusal),

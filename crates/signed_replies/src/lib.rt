@@ -72,7 +72,7 @@ pub fn predecessor_number(reply: Predecessor) -> i64
 
 // The two numbers of a page: how many codes and how many bytes, or a refusal in both.
 #[repr(C)]
-#[derive(Drop)]
+#[derive(Clone, Copy)]
 pub struct PageReply {
     pub codes: i64,
     pub bytes: i64,
@@ -120,7 +120,7 @@ pub fn quantity_number(reply: Quantity) -> i64
 
 // The two numbers of a code with the greatest period: how many bytes it has and what its period is, or a refusal in both.
 #[repr(C)]
-#[derive(Drop)]
+#[derive(Clone, Copy)]
 pub struct GreatestReply {
     pub length: i64,
     pub period: i64,

@@ -13,7 +13,7 @@ use patterns::points_room;
 use size_lists::next_sizes;
 
 // A step through the list of all codes, forward or backward: how many components the system has that it leads to, or the list ends.
-#[derive(Drop)]
+#[derive(Clone, Copy)]
 pub enum Stepped {
     To(usize),
     Ended,

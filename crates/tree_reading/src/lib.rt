@@ -11,7 +11,7 @@ ghost use Rattle.tree_reading.specs.Walking.{walked, walked_all};
 use patterns::Refusal;
 
 // The place after what was read, or the cause of a refusal.
-#[derive(Drop)]
+#[derive(Clone, Copy)]
 pub enum Read {
     Past(usize),
     Refused(Refusal),

@@ -52,7 +52,7 @@ pub fn component_width(s: &[u8]) -> usize
 }
 
 // Where a component begins: its bytes in the written code, and its trees in memory.
-#[derive(Drop)]
+#[derive(Clone, Copy)]
 pub struct Beginning {
     pub start: usize,
     pub from: usize,

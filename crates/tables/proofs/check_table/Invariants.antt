@@ -1,0 +1,11 @@
+use native.Mathlib.Omega.{arith}
+use Rattle.tables.proofs.Tables.{Checking, checking-large, checking-start, checking-next, checking-bad, checking-end}
+use Prim.Native.Nat.{◌-◌}
+use lib.ListN.{length}
+use Rattle.tables.proofs.check_table.Given as goal
+
+abbrev pub invariant-loop-i : goal.invariant-loop-i
+invariant-loop-i l = Checking l.table l.i
+
+abbrev pub decreases-loop-i : goal.decreases-loop-i
+decreases-loop-i l = length l.table - l.i
