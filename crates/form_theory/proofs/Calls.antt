@@ -52,7 +52,7 @@ left-next {m} {n} {s} {S} {r} h l =
     left_after m (written_back S k.0 (omega arith)) k.1 l.earlier r l.cut
 
 -- the calls find all of them
-finds-left : {m n : ℕ} {s : State} → n ≤ 200 → (r : List System) → Left m n s r → Finds (step_of m) s r
+finds-left : {m n : ℕ} → n ≤ 200 → (r : List System) {s : State} → Left m n s r → Finds (step_of m) s r
 finds-left h [] l = at_end l.step
 finds-left h (S ∷ r) l = at_code l.step (finds-left h r (left-next h l))
 

@@ -38,7 +38,7 @@ module _ (b : List ℕ) {S : System} (a : accepted b ≡ done S) where
       let r = codes-sound (weight S) R (in_list (sym c.1) (in_append_right c.0 (in_tail m))) in
       written-fits R r.0 (omega (arith, r.1))
 
-  module _ {n : ℕ} {buffers : List (List ℕ)} {calls : List Call} (made : Calls n (wrote b) buffers calls) where
+  module _ (n : ℕ) {buffers : List (List ℕ)} {calls : List Call} (made : Calls n (wrote b) buffers calls) where
     the-turns : calls ≡ run_of (later S) buffers
     the-turns = calls-run made (finds-later n b S a)
 
