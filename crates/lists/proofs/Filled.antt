@@ -1,11 +1,11 @@
 -- A list whose first places hold one number, place after place.
-use mathlib.Core.Path.{◌≡◌, ap, ap₂, sym, ◌∙◌}
+use mathlib.Core.Path.{◌≡◌, ap, sym, ◌∙◌}
 use mathlib.Core.List.{List, ◌++◌, append-nil}
 use Prim.Native.Nat.{ℕ, ◌+◌, ◌≤◌, ◌<◌}
 use native.Mathlib.Numerals.{add-one}
 use native.Mathlib.Omega.{arith}
 use lib.ListN.{length, take, drop, set, replicate, replicate-append-replicate, drop_of_length-le}
-use lib.Seq.{take-suc-set, take_all, take-length}
+use lib.Seq.{take-suc-set, take_all}
 
 -- the first i places hold x, and now one place more
 pub filled-step : (s : List ℕ) (i x : ℕ) → i < length s → take i s ≡ replicate i x → take (i + 1) (set s i x) ≡ replicate (i + 1) x
@@ -18,5 +18,5 @@ filled-end s i n x h k l e =
     sym (take_all i s k) ∙ e ∙ ap (λ j. replicate j x) q
 
 -- a list copied over one of the same length
-pub copied : (s out : List ℕ) → length out ≡ length s → take (length s) s ++ drop (length s) out ≡ s
-copied s out h = ap₂ ◌++◌ (take-length s) (drop_of_length-le out {i = length s} (omega arith)) ∙ append-nil s
+pub copied : (s out : List ℕ) → length out ≡ length s → s ++ drop (length s) out ≡ s
+copied s out h = ap (λ r. s ++ r) (drop_of_length-le out {i = length s} (omega arith)) ∙ append-nil s

@@ -6,7 +6,7 @@ use native.Mathlib.Nat.{add-zero}
 use native.Mathlib.Numerals.{add-one}
 use native.Mathlib.Omega.{arith}
 use lib.ListN.{length, take, drop, set, length-append, length-take, length-drop, take-append-drop, drop_of_length-le}
-use lib.Seq.{set_split, take_at, drop_at, drop-drop, take-length, length-take-le}
+use lib.Seq.{set_split, take_at, drop_at, drop-drop, length-take-le}
 use borrow.Author.Tests.{le-leb, lt-leb}
 use Rattle.patterns.specs.Written.{write_number}
 use Rattle.patterns.specs.Entry.{gives, Replied}
@@ -88,9 +88,9 @@ put_refused code out h = record { reply = rw (lt-leb (length code) (length out) 
 
 -- room for the result
 pub put-done : (code out after : List ℕ) (r : ℕ) → length code ≤ length out → r ≡ length code
-    → after ≡ take (length code) code ++ drop (length code) out → Replied (gives code) out (length_is r) after
+    → after ≡ code ++ drop (length code) out → Replied (gives code) out (length_is r) after
 put-done code out after r h e f =
     record {
       reply = rw (le-leb (length code) (length out) h, e);
-      output = f ∙ rw (le-leb (length code) (length out) h, take-length code);
+      output = f ∙ rw (le-leb (length code) (length out) h);
     }

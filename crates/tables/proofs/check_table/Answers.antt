@@ -1,11 +1,6 @@
 use native.Mathlib.Omega.{arith}
-use Rattle.tables.proofs.Tables.{Checking, checking-large, checking-start, checking-next, checking-bad, checking-end}
-use Prim.Native.Nat.{◌-◌}
-use lib.ListN.{length}
+use Rattle.tables.proofs.Tables.{checking-large, checking-start, checking-next, checking-bad, checking-end}
 use Rattle.tables.proofs.check_table.Goals as goal
-
-cast-if2 : tie.Need-overflow-cast-if2 invariant-loop decreases-loop
-cast-if2 c = omega (arith, c.shared-slice-known.given c.before.before.loop.i)
 
 pub returns-then-n-gt200 : goal.returns-then-n-gt200
 returns-then-n-gt200 c = checking-large c.args.table.now (omega arith)

@@ -1,5 +1,4 @@
-use native.Mathlib.Omega.{arith}
-use Rattle.tables.proofs.Tables.{Checking, checking-large, checking-start, checking-next, checking-bad, checking-end}
+use Rattle.tables.proofs.Tables.{Checking}
 use Prim.Native.Nat.{◌-◌}
 use lib.ListN.{length}
 use Rattle.tables.proofs.check_table.Given as goal

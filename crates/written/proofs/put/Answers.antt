@@ -11,4 +11,4 @@ pub returns : goal.returns
 returns c =
     let a = c.args in
     let copied = c.copy-length in
-    put-done a.code.now a.out.now _ copied.result (omega arith) copied.ensures.0 copied.ensures.1
+    put-done a.code.now a.out.now _ copied.result (omega arith) copied.ensures.count copied.ensures.output
