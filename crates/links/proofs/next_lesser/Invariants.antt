@@ -1,0 +1,10 @@
+use lib.ListN.{length}
+use Rattle.patterns.specs.Table.{image}
+use Rattle.links.proofs.Descending.{Ahead}
+use Rattle.links.proofs.next_lesser.Given as goal
+
+abbrev pub invariant-loop-y : goal.invariant-loop-y
+invariant-loop-y l = Ahead (length l.f) (image l.f) l.x l.y
+
+abbrev pub decreases-loop-y : goal.decreases-loop-y
+decreases-loop-y l = l.y
