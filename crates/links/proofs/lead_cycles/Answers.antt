@@ -3,7 +3,7 @@ use mathlib.Core.List.{List}
 use Prim.Native.Nat.{ℕ, ◌+◌, ◌-◌, ◌<◌}
 use lib.ListN.{length}
 use native.Mathlib.Omega.{arith}
-use Rattle.links.specs.Leads.{LeadsAsked, Lesser}
+use Rattle.links.specs.Leads.{Lesser}
 use Rattle.cycles.proofs.Marks.{marks-off, marks-on}
 use Rattle.links.proofs.Descending.{lesser-start, lesser-off, lesser-on, lesser-end}
 use Rattle.links.proofs.lead_cycles.Goals as goal
@@ -23,8 +23,8 @@ loop-x-init c = lesser-start c.args.f.now _ _ c.set_all.ensures c.requires.room
 pub bounds-marks-x : goal.bounds-marks-x
 bounds-marks-x c = omega (arith, c.requires.marked.same, c.loop-x.invariant.passed)
 
-pub next_lesser-requires : goal.next_lesser-requires
-next_lesser-requires c =
+pub next_lesser-y-requires : goal.next_lesser-y-requires
+next_lesser-y-requires c =
     let h = here c.loop-x.invariant c.loop-x-test.true in
     record {
       table = c.requires.table;
@@ -39,14 +39,14 @@ overflow_cast-leads c = omega (arith, c.next_lesser-y.ensures.not_above, c.loop-
 pub bounds-leads-x : goal.bounds-leads-x
 bounds-leads-x c = omega (arith, c.loop-x.invariant.room, c.loop-x.invariant.passed)
 
-pub loop-x-preserved : goal.loop-x-preserved
-loop-x-preserved c =
+pub loop-x-preserved-then-marks-x-ne0 : goal.loop-x-preserved-then-marks-x-ne0
+loop-x-preserved-then-marks-x-ne0 c =
     let l = c.loop-x.invariant in
     let t = c.loop-x-test.true in
     lesser-on (greater l t) c.next_lesser-y.result (marks-on c.requires.marked (here l t) c.if-marks-x-ne0.true) c.next_lesser-y.ensures
 
-pub loop-x-preserved-2 : goal.loop-x-preserved-2
-loop-x-preserved-2 c =
+pub loop-x-preserved : goal.loop-x-preserved
+loop-x-preserved c =
     let l = c.loop-x.invariant in
     let t = c.loop-x-test.true in
     lesser-off (greater l t) (marks-off c.requires.marked (here l t) c.if-marks-x-ne0.false)

@@ -4,7 +4,7 @@ use mathlib.Core.List.{List}
 use Prim.Native.Nat.{ℕ, ◌<◌}
 use lib.ListN.{length, get_or, replicate}
 use Rattle.patterns.specs.Table.{is_table}
-use Rattle.links.specs.Links.{LinksAsked, Links}
+use Rattle.links.specs.Links.{Links}
 use Rattle.cycles.proofs.Marks.{inside}
 use Rattle.links.proofs.Linking.{links-none, links-skip, links-take}
 use native.Mathlib.Omega.{arith}
@@ -34,8 +34,8 @@ loop-y-preserved c =
     let t = c.loop-y-test.true in (
       omega arith,
       elim c.if-marks-y-eq0.branch [
-        then-marks-y-eq0 w ↦ rw (w.last-is, w.before-is) (links-take m t l c.requires.table w.if-marks-y-eq0.true)
-      | else-marks-y-eq0 w ↦ rw (w.last-is, w.before-is) (links-skip m t l w.if-marks-y-eq0.false)
+        | then-marks-y-eq0 w ↦ rw (w.last-is, w.before-is) (links-take m t l c.requires.table w.if-marks-y-eq0.true)
+        | else-marks-y-eq0 w ↦ rw (w.last-is, w.before-is) (links-skip m t l w.if-marks-y-eq0.false)
       ],
     )
 
@@ -49,3 +49,6 @@ pub returns : goal.returns
 returns c =
     let e : c.loop-y.y ≡ length c.args.f.now = omega arith in
     rw e at c.loop-y.invariant.1
+
+pub bounds-last-x-then-marks-y-eq0 : goal.bounds-last-x-then-marks-y-eq0
+bounds-last-x-then-marks-y-eq0 c = has-place c.requires.table c.loop-y.invariant.1 c.loop-y-test.true
