@@ -78,6 +78,10 @@ module _ {f body : List ℕ} {i : ℕ} (w : Writing f body i) where
   pub bit-within : {x y : ℕ} → x < length f → y < length f → x * length f + y < length body * 6
   bit-within h k = omega (arith, pair-below h k, writing-length, body-holds (length f))
 
+  -- and so does that of the arc of point i
+  pub arc-within : is_table f ≡ true → i < length f → arc f i < length body * 6
+  arc-within t h = bit-within h (table_below (length f) f refl t i h)
+
   -- the body's bytes are in the format, and have room for one bit more
   pub byte_small : (p : ℕ) → p < length body * 6 → with_bit body p < 256
   byte_small p h =

@@ -4,7 +4,7 @@ use mathlib.Core.List.{List, ◌∷◌, ◌++◌, append_assoc}
 use Prim.Native.Nat.{ℕ, ◌+◌, ◌-◌, ◌≤◌}
 use native.Mathlib.Omega.{arith}
 use lib.ListN.{length, take, drop}
-use lib.Seq.{take_at, drop_at, drop-drop, take-length}
+use lib.Seq.{take_at, drop_at, drop-drop}
 use Rattle.patterns.specs.Digraph6.{size_field, matrix, packed, body_length, digraph6}
 use Rattle.patterns.specs.Entry.{gives, Replied}
 use Rattle.patterns.specs.Replies.{length_is}
@@ -25,5 +25,5 @@ line-put f out {head} {body} h b e d room p q =
     let front : length head ≡ h = omega (arith, ap length p) in
     let end : h + (h + b - h) ≡ length line = omega (arith, line-length-is f) in
     put-done line out _ (h + b) (omega (arith, line-length-is f)) (omega (arith, line-length-is f))
-    (rw (take_at head (drop h out) h front, drop_at head (drop h out) h front, drop-drop (h + b - h) h out, end, take-length line)
+    (rw (take_at head (drop h out) h front, drop_at head (drop h out) h front, drop-drop (h + b - h) h out, end)
     (sym (append_assoc head body (drop (length line) out)) ∙ ap (◌++ drop (length line) out) (ap₂ ◌++◌ p q ∙ line-parts f)))
