@@ -13,8 +13,7 @@ ghost use Rattle.memory.specs.Memory.{Held, HeldTree};
 ghost use Rattle.trees.specs.Beginnings.{leading_points, last_start, star};
 ghost use Rattle.trees.specs.HeldNeighbours.{behind, HeldNeighbours};
 
-use lists::copy;
-use lists::{Order, compare, exchange};
+use lists::{Order, compare, copy, exchange};
 
 // Less or equal.
 fn not_greater(order: Order) -> bool

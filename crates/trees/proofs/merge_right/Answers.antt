@@ -1,0 +1,51 @@
+use mathlib.Core.Path.{ap, ◌∙◌}
+use Prim.Native.Nat.{◌+◌}
+use native.Mathlib.Omega.{arith}
+use lib.ListN.{get_or, set}
+use Rattle.lists.specs.Blocks.{exchanged}
+use Rattle.trees.proofs.Merging.{reach, merged-right}
+use Rattle.lists.proofs.Filled.{copied}
+use Rattle.trees.proofs.merge_right.Goals as goal
+
+pub exchange-requires : goal.exchange-requires
+exchange-requires c = let r = reach c.requires in (omega arith, omega arith, omega arith)
+
+pub returns : goal.returns
+returns c =
+    let s = c.args.s.now in
+    let i = c.args.i in
+    let j = i + get_or s i 0 in
+    λ t u d e.
+    ap (λ l. set l i (get_or s j 0 + get_or s i 0))
+    (c.exchange.ensures ∙ ap (exchanged i j (j + get_or s j 0)) (c.copy.ensures.output ∙ copied s c.args.out.now c.requires.room))
+    ∙ merged-right s i t u d e
+
+pub bounds-s-i : goal.bounds-s-i
+bounds-s-i c = omega (arith, reach c.requires)
+
+pub overflow_cast-j : goal.overflow_cast-j
+overflow_cast-j c = omega (arith, reach c.requires)
+
+pub overflow_add-j : goal.overflow_add-j
+overflow_add-j c = omega (arith, reach c.requires)
+
+pub bounds-s-j : goal.bounds-s-j
+bounds-s-j c = omega (arith, reach c.requires)
+
+pub overflow_cast-e : goal.overflow_cast-e
+overflow_cast-e c = omega (arith, reach c.requires)
+
+pub overflow_add-e : goal.overflow_add-e
+overflow_add-e c = omega (arith, reach c.requires)
+
+pub bounds-s-j-2 : goal.bounds-s-j-2
+bounds-s-j-2 c = omega (arith, reach c.requires)
+
+pub bounds-s-i-2 : goal.bounds-s-i-2
+bounds-s-i-2 c = omega (arith, reach c.requires)
+
+pub overflow_add-out : goal.overflow_add-out
+overflow_add-out c = omega (arith, reach c.requires)
+
+pub bounds-out-i : goal.bounds-out-i
+bounds-out-i c = omega (arith, reach c.requires)
