@@ -1,5 +1,5 @@
 // Lists of up to 10,000 bytes by value: what a case holds passes from function to function, and no slice is lent.
-ghost use Rattle.std.specs.Prelude.{◌≡◌, length};
+ghost use Rattle.std.specs.Prelude.{◌≡◌, true, length};
 
 use crate::numbers;
 
@@ -7,7 +7,7 @@ use crate::numbers;
 pub const FILLING: u8 = 170;
 
 // The first `len` bytes are the list. `next` is the place after it in the text that it was read from.
-#[derive(Drop)]
+#[derive(Clone, Copy)]
 pub struct List {
     pub bytes: [u8; 10000],
     pub len: usize,
@@ -64,6 +64,14 @@ pub fn read(text: &[u8], at: usize) -> List {
     }
 }
 
+// Whether `a` and `b` hold the same bytes.
+pub fn same_bytes(a: &[u8], b: &[u8]) -> bool
+    ensures same { result ≡ true → a.now ≡ b.now }
+    ensures told { a.now ≡ b.now → result ≡ true }
+{
+    a == b
+}
+
 // Whether two lists are the same, and so is all that stands after them.
 pub fn same(a: List, b: List) -> bool {
     if a.len != b.len {
@@ -71,5 +79,5 @@ pub fn same(a: List, b: List) -> bool {
     }
     let left = a.bytes;
     let right = b.bytes;
-    check::same(&left, &right)
+    same_bytes(&left, &right)
 }

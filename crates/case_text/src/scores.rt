@@ -1,6 +1,10 @@
 // Files of cases, and how many of the comparisons of a group hold.
+ghost use Rattle.std.specs.Prelude.{◌≤◌, length};
+
 use crate::numbers;
-use libc::STDOUT_FILENO;
+use std::io::{Read, Write};
+use std::rt::Files;
+use std::{fs, io, str};
 
 // Of how many comparisons how many hold.
 #[derive(Clone, Copy)]
@@ -10,21 +14,42 @@ pub struct Score {
 }
 
 // A file: its first `len` bytes.
-#[derive(Drop)]
+#[derive(Clone, Copy)]
 pub struct File {
     pub bytes: [u8; 65536],
     pub len: usize,
 }
 
-// The file of this name; one of no bytes where it cannot be opened.
-pub fn load(name: &[u8]) -> File {
-    let mut bytes = io::large_buffer();
-    let file = os::open_read(name);
-    if file < 0 {
-        return File { bytes, len: 0 };
+// Reads until `out` is full, the input ends or a read fails, and answers how many bytes it put at the start of `out`.
+fn read_full(from: &mut impl Read, out: &mut [u8]) -> usize
+    ensures { result ≤ length out.new }
+{
+    let mut len = 0;
+    while len < out.len() {
+        match from.read(&mut out[len..]) {
+            Ok(0) => return len,
+            Ok(n) => len += n,
+            Err(_) => return len,
+        }
     }
-    let len = io::read_full(file, &mut bytes);
-    libc::close(file);
+    len
+}
+
+// Reads the file of this name into `out`, and answers how many bytes it has there; none where it cannot be opened.
+fn read_file(files: &impl Files, name: &str, out: &mut [u8]) -> usize {
+    match fs::open(files, name) {
+        Ok(mut file) => read_full(&mut file, out),
+        Err(_) => 0,
+    }
+}
+
+// The file of this name; one of no bytes where it cannot be opened.
+pub fn load(files: &impl Files, name: &[u8]) -> File {
+    let mut bytes = [0; 65536];
+    let len = match str::from_utf8(name) {
+        Ok(text) => read_file(files, text, &mut bytes),
+        Err(_) => 0,
+    };
     File { bytes, len }
 }
 
@@ -37,11 +62,7 @@ pub fn sum(a: Score, b: Score) -> Score {
 }
 
 // The line of a group.
-pub fn report(group: &[u8], score: Score) {
-    io::write_all(STDOUT_FILENO, group);
-    io::write_all(STDOUT_FILENO, b": ");
-    io::print_decimal(STDOUT_FILENO, score.held as u64);
-    io::write_all(STDOUT_FILENO, b" of ");
-    io::print_decimal(STDOUT_FILENO, score.total as u64);
-    io::write_all(STDOUT_FILENO, b"\n");
+pub fn report(to: &impl Print, group: &[u8], score: Score) -> io::Result<()> {
+    io::writer(to).write_all(group)?;
+    println!(to; ": {} of {}", score.held, score.total)
 }
