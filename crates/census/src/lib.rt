@@ -13,7 +13,7 @@ ghost use Rattle.census.specs.Entries.{row_in};
 use patterns::{Row, points_room};
 
 // Row i, i below `rows`: `counts[i]` cycles have `lengths[i]` points.
-#[derive(Drop)]
+#[derive(Clone, Copy)]
 pub struct Rows {
     pub lengths: [u8; 19],
     pub counts: [u8; 19],
