@@ -11,8 +11,8 @@ use Rattle.patterns.specs.Replies.{Answer, refused, number_of}
 use Rattle.patterns.specs.Entry.{Replied, code_of_map}
 use Rattle.patterns.specs.Digraph6.{read_line, code_of_digraph6}
 use Rattle.patterns.proofs.Outcomes.{outcome-refused, code_gives}
-use Rattle.digraph6_theory.proofs.OneLine.{line-table}
-use Rattle.digraph6_theory.proofs.CodesAsLines.{line_code}
+use Rattle.line_theory.proofs.OneLine.{line-table}
+use Rattle.line_theory.proofs.CodesAsLines.{line_code}
 use Rattle.digraph6_reading.specs.LineResults.{line_result, LineRead}
 
 module _ (l : List ℕ) {r : Reply} {table : List ℕ} (w : LineRead (read_line l) r table) where

@@ -8,9 +8,9 @@ use native.Mathlib.Omega.{arith}
 use lib.ListN.{length}
 use Rattle.lists.specs.Select.{each, gather}
 use Rattle.patterns.specs.Digraph6.{in_format, bits_of, body_length}
-use Rattle.digraph6_theory.proofs.Packing.{unpacked-length}
-use Rattle.digraph6_theory.proofs.Lines.{body-holds}
-use Rattle.digraph6_theory.proofs.OneLine.{body-length, body-format}
+use Rattle.line_theory.proofs.Packing.{unpacked-length}
+use Rattle.line_theory.proofs.Lines.{body-holds}
+use Rattle.line_theory.proofs.OneLine.{body-length, body-format}
 use Rattle.digraph6_reading.specs.LineResults.{BitsAsked, MatrixAsked}
 
 pub square-small : {n : ℕ} → n ≤ 200 → n * n ≤ 40000

@@ -9,7 +9,7 @@ use Rattle.lists.specs.Select.{each}
 use Rattle.lists.proofs.Tests.{each_member}
 use Rattle.lists.proofs.Places.{in-index, drop-one}
 use Rattle.patterns.specs.Digraph6.{in_format, size_value}
-use Rattle.digraph6_theory.proofs.Packing.{in-format}
+use Rattle.line_theory.proofs.Packing.{in-format}
 
 -- 64 to the power i, for i up to 6
 abbrev power_of : ℕ → ℕ

@@ -13,7 +13,7 @@ use Rattle.lists.proofs.Tests.{by-test, same_tests, each-true, each_member, clas
 use Rattle.lists.proofs.Places.{in-index, index_of}
 use Rattle.lists.proofs.EqualPieces.{piece-at}
 use Rattle.patterns.specs.Digraph6.{in_format, bits_of}
-use Rattle.digraph6_theory.proofs.Packing.{unpacked-length}
+use Rattle.line_theory.proofs.Packing.{unpacked-length}
 use Rattle.digraph6_reading.specs.LineResults.{BitsAsked, FirstOne}
 
 -- a bit by its byte and its place there

@@ -16,8 +16,8 @@ use Rattle.patterns.specs.declared.reply.Reply.{Reply}
 use Rattle.patterns.specs.declared.reply.Reply.TheVariants.{Length, Refused}
 use Rattle.patterns.specs.Reading.{Result, done, fault, and_then}
 use Rattle.patterns.specs.Digraph6.{in_format, bits_of, body_length, is_line_body, read_count, read_matrix, read_line_body, read_line}
-use Rattle.digraph6_theory.proofs.Packing.{unpacked-length}
-use Rattle.digraph6_theory.proofs.Lines.{body-holds}
+use Rattle.line_theory.proofs.Packing.{unpacked-length}
+use Rattle.line_theory.proofs.Lines.{body-holds}
 use Rattle.digraph6_reading.specs.LineResults.{FirstOne, MatrixAsked, matrix_result, LineRead}
 use Rattle.digraph6_reading.proofs.FirstOnes.{all-zero}
 

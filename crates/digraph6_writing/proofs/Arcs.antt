@@ -18,9 +18,9 @@ use Rattle.lists.proofs.EqualPieces.{pair-below}
 use Rattle.patterns.specs.Table.{is_table, image}
 use Rattle.patterns.specs.Digraph6.{matrix_row, matrix, packed, body_length, in_format}
 use Rattle.map_theory.proofs.Isomorphisms.{table_below}
-use Rattle.digraph6_theory.proofs.Packing.{packed-length, packed-format, in-format}
-use Rattle.digraph6_theory.proofs.Rows.{row-length, row_at, rows-length, rows-bits}
-use Rattle.digraph6_theory.proofs.Lines.{body-holds}
+use Rattle.line_theory.proofs.Packing.{packed-length, packed-format, in-format}
+use Rattle.line_theory.proofs.Rows.{row-length, row_at, rows-length, rows-bits}
+use Rattle.line_theory.proofs.Lines.{body-holds}
 use Rattle.digraph6_writing.proofs.OneBit.{OneMore, with_bit, weight-small, packed_more}
 
 -- a row is one bit

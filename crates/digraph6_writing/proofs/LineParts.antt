@@ -9,7 +9,7 @@ use Rattle.patterns.specs.Digraph6.{size_field, matrix, packed, body_length, dig
 use Rattle.patterns.specs.Entry.{gives, Replied}
 use Rattle.patterns.specs.Replies.{length_is}
 use Rattle.written.proofs.Placing.{put-done}
-use Rattle.digraph6_theory.proofs.LineLengths.{line-length-is}
+use Rattle.line_theory.proofs.LineLengths.{line-length-is}
 
 line-parts : (f : List ℕ) → (38 ∷ size_field (length f)) ++ packed (body_length (length f)) (matrix f) ≡ digraph6 f
 unfolding digraph6

@@ -11,8 +11,8 @@ use lib.Seq.{get_or-drop, get_or-set_same, get_or-set_other, ext_get_or}
 use borrow.Author.Tests.{eq-eqb, ne_eqb, eqb-true, eqb-false}
 use Rattle.lists.proofs.Tests.{by-test, same_tests}
 use Rattle.patterns.specs.Digraph6.{sextet, packed}
-use Rattle.digraph6_theory.proofs.Packing.{packed-length}
-use Rattle.digraph6_theory.proofs.LinePlaces.{packed-at}
+use Rattle.line_theory.proofs.Packing.{packed-length}
+use Rattle.line_theory.proofs.LinePlaces.{packed-at}
 use Rattle.digraph6_writing.specs.BodyPlaces.{weight_of}
 
 -- b has one more than a at place p, and elsewhere the same; a bit that is missing is 0

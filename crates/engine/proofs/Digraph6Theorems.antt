@@ -26,11 +26,11 @@ use Rattle.form_theory.proofs.WrittenBack.{accepted-canonical, written-fits, wri
 use Rattle.map_theory.proofs.MapOf.{length-map_of, map_of-table}
 use Rattle.map_theory.proofs.Theorems.{table-weight, isomorphic-same-system, same-system-isomorphic}
 use Rattle.tables.specs.Tables.{Table}
-use Rattle.digraph6_theory.proofs.Lines.{line-back}
-use Rattle.digraph6_theory.proofs.OneLine.{line-only, line-table}
-use Rattle.digraph6_theory.proofs.LineLengths.{line-length-is, line-length}
-use Rattle.digraph6_theory.proofs.CodesAsLines.{table-writable, line-given, line_code, code-line, code-given, code-out-in, line-in-out}
-use Rattle.digraph6_theory.proofs.LineFaults.{LineFault, too_many_points, line_form, out_degree, line-fault, DegreeFault, degree-fault, degree-refused}
+use Rattle.line_theory.proofs.Lines.{line-back}
+use Rattle.line_theory.proofs.OneLine.{line-only, line-table}
+use Rattle.line_theory.proofs.LineLengths.{line-length-is, line-length}
+use Rattle.line_theory.proofs.CodesAsLines.{table-writable, line-given, line_code, code-line, code-given, code-out-in, line-in-out}
+use Rattle.line_theory.proofs.LineFaults.{LineFault, too_many_points, line_form, out_degree, line-fault, DegreeFault, degree-fault, degree-refused}
 use Rattle.engine.proofs.WrittenCodes.{Wrote, wrote-gives}
 use Rattle.engine.proofs.SameReplies.{SameReplies, Refuses, same-replies, fails-refuses, accept-system}
 

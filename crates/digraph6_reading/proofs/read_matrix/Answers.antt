@@ -3,7 +3,7 @@ use native.Mathlib.Omega.{arith}
 use lib.ListN.{length, length-set}
 use Rattle.lists.specs.Select.{gather}
 use Rattle.patterns.specs.Digraph6.{bits_of}
-use Rattle.digraph6_theory.proofs.Packing.{unpacked-length}
+use Rattle.line_theory.proofs.Packing.{unpacked-length}
 use Rattle.digraph6_reading.proofs.Bodies.{square-small, matrix-asked, matrix-whole}
 use Rattle.digraph6_reading.proofs.MatrixRows.{rows_start, row_within, rows_none, image-below, one-within, rows-second, rows_next, rows_end}
 use Rattle.digraph6_reading.proofs.read_matrix.Goals as goal

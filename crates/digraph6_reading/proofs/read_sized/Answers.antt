@@ -1,6 +1,6 @@
 use mathlib.Core.Path.{ap, sym, ◌∙◌}
 use borrow.Author.Rules.{rules}
-use Rattle.digraph6_theory.proofs.Sizes.{count-within}
+use Rattle.line_theory.proofs.Sizes.{count-within}
 use Rattle.digraph6_reading.specs.LineResults.{size_result}
 use Rattle.digraph6_reading.proofs.LinesRead.{line_refused, size-refused, size-read}
 use Rattle.digraph6_reading.proofs.read_sized.Goals as goal

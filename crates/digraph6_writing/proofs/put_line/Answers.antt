@@ -5,8 +5,8 @@ use lib.ListN.{length, length-take}
 use lib.Seq.{length-take-le}
 use Rattle.patterns.specs.Digraph6.{digraph6}
 use Rattle.written.proofs.Placing.{put_refused}
-use Rattle.digraph6_theory.proofs.Sizes.{size_field-length}
-use Rattle.digraph6_theory.proofs.LineLengths.{line-length-is, line-length}
+use Rattle.line_theory.proofs.Sizes.{size_field-length}
+use Rattle.line_theory.proofs.LineLengths.{line-length-is, line-length}
 use Rattle.digraph6_writing.proofs.LineParts.{line-put}
 use Rattle.digraph6_writing.proofs.put_line.Goals as goal
 

@@ -1,7 +1,7 @@
 use mathlib.Core.Path.{ap, ◌∙◌}
 use Prim.Native.Nat.{◌-◌, ◌/◌, ◌%◌}
 use native.Mathlib.Omega.{arith}
-use Rattle.digraph6_theory.proofs.Packing.{in-format}
+use Rattle.line_theory.proofs.Packing.{in-format}
 use Rattle.digraph6_reading.proofs.ByteBits.{bit-by-weight, weight-some}
 use Rattle.digraph6_reading.proofs.bits.bit.Goals as goal
 

@@ -6,8 +6,8 @@ use native.Mathlib.Nat.{mul-le-mul}
 use native.Mathlib.Omega.{arith}
 use lib.ListN.{length, length-append}
 use Rattle.patterns.specs.Digraph6.{size_field, matrix, packed, body_length, digraph6}
-use Rattle.digraph6_theory.proofs.Packing.{packed-length}
-use Rattle.digraph6_theory.proofs.Sizes.{size_field-length}
+use Rattle.line_theory.proofs.Packing.{packed-length}
+use Rattle.line_theory.proofs.Sizes.{size_field-length}
 
 pub line-length-is : (f : List ℕ) → length (digraph6 f) ≡ 1 + length (size_field (length f)) + body_length (length f)
 unfolding digraph6

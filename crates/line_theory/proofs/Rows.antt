@@ -19,7 +19,7 @@ use Rattle.patterns.specs.Reading.{done, mapped}
 use Rattle.form_theory.proofs.Results.{Good, good-then, good-mapped}
 use Rattle.form_theory.proofs.Bounds.{all_below, below-cons, below-head, below-tail, below-append, below_at}
 use Rattle.patterns.specs.Digraph6.{matrix_row, is_neighbour, neighbours, only_neighbour, read_matrix}
-use Rattle.digraph6_theory.proofs.Packing.{Bits, bit_at}
+use Rattle.line_theory.proofs.Packing.{Bits, bit_at}
 
 pub row-length : (n y : ℕ) → length (matrix_row n y) ≡ n
 row-length n y = length-map (range 0 n) (λ j. cond (eqb j y) 1 0) ∙ range_length 0 n

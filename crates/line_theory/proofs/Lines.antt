@@ -14,9 +14,9 @@ use Rattle.patterns.specs.declared.Refusal.TheVariants.{LineForm}
 use Rattle.patterns.specs.Reading.{done, fault}
 use Rattle.patterns.specs.Table.{is_table}
 use Rattle.patterns.specs.Digraph6.{size_field, matrix, packed, body_length, digraph6, bits_of, is_line_body, read_matrix, read_line_body, read_line}
-use Rattle.digraph6_theory.proofs.Packing.{packed-length, packed-format, zeros, unpacked}
-use Rattle.digraph6_theory.proofs.Rows.{rows-length, rows-bits, rows_back}
-use Rattle.digraph6_theory.proofs.Sizes.{count-back}
+use Rattle.line_theory.proofs.Packing.{packed-length, packed-format, zeros, unpacked}
+use Rattle.line_theory.proofs.Rows.{rows-length, rows-bits, rows_back}
+use Rattle.line_theory.proofs.Sizes.{count-back}
 
 -- the bytes of a body hold the matrix
 pub body-holds : (n : ℕ) → n * n ≤ body_length n * 6

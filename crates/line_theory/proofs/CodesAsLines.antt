@@ -18,8 +18,8 @@ use Rattle.map_theory.proofs.Theorems.{system-of-map, table-canonical, table-wei
 use Rattle.form_theory.proofs.Bounds.{all_below}
 use Rattle.form_theory.proofs.WrittenBack.{written_back, accepted-is}
 use Rattle.patterns.specs.Digraph6.{digraph6, read_line, digraph6_of_code, code_of_digraph6}
-use Rattle.digraph6_theory.proofs.Lines.{line-back}
-use Rattle.digraph6_theory.proofs.OneLine.{line-table}
+use Rattle.line_theory.proofs.Lines.{line-back}
+use Rattle.line_theory.proofs.OneLine.{line-table}
 
 -- the line of a code that is accepted
 pub code-line : (b : List ℕ) (S : System) → accepted b ≡ done S → digraph6_of_code b ≡ gives (digraph6 (map_of S))

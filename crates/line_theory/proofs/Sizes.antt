@@ -13,7 +13,7 @@ use Rattle.patterns.specs.declared.Refusal.TheVariants.{Count}
 use Rattle.patterns.specs.Reading.{done, fault}
 use Rattle.form_theory.proofs.Results.{Good, good-then, good-weaken, good-done}
 use Rattle.patterns.specs.Digraph6.{size_field, in_format, size_value, sized, read_size, shortest, read_count}
-use Rattle.digraph6_theory.proofs.Packing.{in-format, format-in}
+use Rattle.line_theory.proofs.Packing.{in-format, format-in}
 
 -- the number in the digits, and the bytes that the size takes
 abbrev Digits : ℕ → ℕ → List ℕ → ℕ × ℕ → Type 0

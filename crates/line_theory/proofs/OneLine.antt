@@ -14,10 +14,10 @@ use Rattle.patterns.specs.Table.{is_table}
 use Rattle.form_theory.proofs.Results.{Good, good-then, good-weaken, good-done}
 use Rattle.form_theory.proofs.Bounds.{all_below}
 use Rattle.patterns.specs.Digraph6.{size_field, matrix_row, packed, body_length, digraph6, in_format, bits_of, is_line_body, read_count, read_matrix, read_line_body, read_line}
-use Rattle.digraph6_theory.proofs.Packing.{packed-padded, repacked, unpacked-bits, unpacked-length}
-use Rattle.digraph6_theory.proofs.Rows.{RowsOf, rows-good}
-use Rattle.digraph6_theory.proofs.Lines.{body-holds}
-use Rattle.digraph6_theory.proofs.Sizes.{Counted, count-good}
+use Rattle.line_theory.proofs.Packing.{packed-padded, repacked, unpacked-bits, unpacked-length}
+use Rattle.line_theory.proofs.Rows.{RowsOf, rows-good}
+use Rattle.line_theory.proofs.Lines.{body-holds}
+use Rattle.line_theory.proofs.Sizes.{Counted, count-good}
 
 -- a body in the format is the packing of its first n * n bits
 module _ (n : ℕ) (body : List ℕ) (e : is_line_body n body ≡ true) where

@@ -14,8 +14,8 @@ use Rattle.patterns.specs.declared.Refusal.TheVariants.{Count, LineForm, OutDegr
 use Rattle.patterns.specs.Reading.{Result, done, fault, and_then}
 use Rattle.patterns.specs.Digraph6.{size_field, in_format, bits_of, is_line_body, sized, read_size, shortest, read_count, read_matrix, read_line_body, read_line}
 use Rattle.form_theory.proofs.Results.{good-done}
-use Rattle.digraph6_theory.proofs.RowFaults.{WrongRow, rows-fault, rows-wrong}
-use Rattle.digraph6_theory.proofs.Sizes.{Counted, count-good, count-back}
+use Rattle.line_theory.proofs.RowFaults.{WrongRow, rows-fault, rows-wrong}
+use Rattle.line_theory.proofs.Sizes.{Counted, count-good, count-back}
 
 -- the cause of a fault has P; what was read claims nothing
 abbrev Blames : {A : Type 0} → (Refusal → Type 0) → Result A → Type 0
