@@ -22,7 +22,7 @@ pub enum Phase {
 }
 
 // Where a line comes next, its code is the first `len` bytes of `code`.
-#[derive(Drop)]
+#[derive(Clone, Copy)]
 pub struct State {
     pub phase: Phase,
     pub code: [u8; 1000],
@@ -30,7 +30,7 @@ pub struct State {
 }
 
 // What is put ends at `len`; the rest is for the next state.
-#[derive(Drop)]
+#[derive(Clone, Copy)]
 pub struct Step {
     pub len: usize,
     pub next: State,
