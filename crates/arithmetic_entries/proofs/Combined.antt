@@ -17,6 +17,8 @@ use Rattle.combining.specs.Combining.{points_of, table_of, CombineAsked}
 use Rattle.arithmetic_theory.proofs.Operation.{Operation as Lawful}
 use Rattle.arithmetic_theory.proofs.Sums.{sum-operation}
 use Rattle.arithmetic_theory.proofs.Products.{product-operation}
+-- the map of a code that was read
+pub use Rattle.decoding_entry.proofs.Decoded.{decoded-checked}
 
 -- the laws of either operation
 lawful : (o : Operation) → Lawful (table_of o) (points_of o)

@@ -1,5 +1,6 @@
 -- What the reply of "map of a code" says to an entry that goes on with the map, which it had written into 200 places.
 use mathlib.Core.Path.{◌≡◌, refl, ap, sym, ◌∙◌, subst}
+use mathlib.Core.Bool.{true}
 use mathlib.Core.List.{List}
 use Prim.Native.Nat.{ℕ, ◌≤◌}
 use native.Mathlib.Omega.{arith}
@@ -58,14 +59,15 @@ module _ (b : List ℕ) {r : Reply} {before after : List ℕ} (p : Replied (map_
       of (fault d) q h = rw h (outcome-refused f out d q)
 
 module _ {b after : List ℕ} {n : ℕ} (d : Decoded b after n) where
+  pub decoded-table : is_table (take n after) ≡ true
+  decoded-table = ap is_table d.map_is ∙ map_of-table d.system
+
+  pub decoded-points : length (take n after) ≡ n
+  decoded-points = ap length d.map_is ∙ length-map_of d.system ∙ d.points
+
   -- it is a table of at most 200 points
   pub decoded-checked : Table (take n after)
-  decoded-checked =
-      let few = d.small in
-      record {
-        table = ap is_table d.map_is ∙ map_of-table d.system;
-        small = omega (arith, ap length d.map_is, length-map_of d.system, d.points);
-      }
+  decoded-checked = let few = d.small in record { table = decoded-table; small = omega (arith, decoded-points) }
 
   -- what is found of the table is what is found of the map of the code
   pub decoded-replied : (h : List ℕ → Outcome ℕ) {out out' : List ℕ} {a : Answer} → Replied (h (take n after)) out a out'

@@ -25,7 +25,8 @@ use Rattle.arithmetic_theory.proofs.Sums.{sum-operation}
 use Rattle.arithmetic_theory.proofs.Products.{product-operation}
 use Rattle.arithmetic_theory.proofs.SystemLaws.{made, made-weight}
 use Rattle.engine.proofs.WrittenCodes.{Wrote, wrote-gives, map-given}
-use Rattle.engine.proofs.SameReplies.{SameReplies, Refuses, same-replies, fails-refuses, accept-system}
+pub use Rattle.engine.proofs.SameReplies.{SameReplies, Refuses}
+use Rattle.engine.proofs.SameReplies.{same-replies, fails-refuses, accept-system}
 use Rattle.arithmetic_theory.proofs.CodeLaws.{both_found, given-accepted, combined-maps, sum-codes-commute, product-codes-commute, sum-codes-associate, product-codes-associate, codes-distribute, codes-distribute-left, sum-code-neutral, sum-code-neutral-right, product-code-neutral, product-code-neutral-right, product-code-empty, product-code-empty-right}
 
 -- Commutative, where a is accepted, and so wherever one of the two codes is; where both are refused the reply tells of the first.

@@ -11,9 +11,12 @@ use Rattle.patterns.specs.Entry.{Outcome, gives, ends, begins, lacks, fails, ans
 
 -- the table of causes
 pub causes-numbered :
-    map number_of (Count ∷ Image ∷ Truncated ∷ NumberForm ∷ Sizes ∷ NotCanonical ∷ Trailing ∷ Room ∷ Position ∷ Wanted ∷ TooLarge ∷ Uncounted ∷ TooManyPoints ∷ LineForm ∷ OutDegree ∷ [])
-    ≡ 1 ∷ 2 ∷ 3 ∷ 4 ∷ 5 ∷ 6 ∷ 7 ∷ 8 ∷ 9 ∷ 10 ∷ 11 ∷ 12 ∷ 13 ∷ 14 ∷ 15 ∷ []
+    map number_of (Count ∷ Image ∷ Truncated ∷ NumberForm ∷ Sizes ∷ NotCanonical ∷ Trailing ∷ Room ∷ Position ∷ Wanted ∷ TooLarge ∷ Uncounted ∷ TooManyPoints ∷ [])
+    ≡ 1 ∷ 2 ∷ 3 ∷ 4 ∷ 5 ∷ 6 ∷ 7 ∷ 8 ∷ 9 ∷ 10 ∷ 11 ∷ 12 ∷ 13 ∷ []
 causes-numbered = refl
+
+pub line-causes-numbered : map number_of (LineForm ∷ OutDegree ∷ []) ≡ 14 ∷ 15 ∷ []
+line-causes-numbered = refl
 
 -- what each case of a running reply says
 pub replies-told :
