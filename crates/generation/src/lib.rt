@@ -9,8 +9,8 @@ ghost use Rattle.children.specs.Candidates.{Gave};
 ghost use Rattle.scanning.specs.HeldNodes.{Node, AsLong};
 ghost use Rattle.generation.specs.Siblings.{ChildKey, child_beside, Beside};
 
-use lists::copy;
 use components::{Climb, parent};
+use lists::copy;
 use scanning::{scan, scan_down};
 use trees::count;
 
