@@ -34,7 +34,7 @@ const WIDE: usize = 2000;
 const UNKNOWN: usize = 99;
 
 // What a call answered, and all of the output, of which the first `room` places were lent.
-#[derive(Drop)]
+#[derive(Clone, Copy)]
 pub struct Written {
     pub bytes: [u8; 10000],
     pub room: usize,

@@ -1,8 +1,6 @@
 // Files of cases, and how many of the comparisons of a group hold.
-ghost use Rattle.std.specs.Prelude.{◌≤◌, length};
-
 use crate::numbers;
-use std::io::{Read, Write};
+use std::io::Write;
 use std::rt::Files;
 use std::{fs, io, str};
 
@@ -20,25 +18,10 @@ pub struct File {
     pub len: usize,
 }
 
-// Reads until `out` is full, the input ends or a read fails, and answers how many bytes it put at the start of `out`.
-fn read_full(from: &mut impl Read, out: &mut [u8]) -> usize
-    ensures { result ≤ length out.new }
-{
-    let mut len = 0;
-    while len < out.len() {
-        match from.read(&mut out[len..]) {
-            Ok(0) => return len,
-            Ok(n) => len += n,
-            Err(_) => return len,
-        }
-    }
-    len
-}
-
 // Reads the file of this name into `out`, and answers how many bytes it has there; none where it cannot be opened.
 fn read_file(files: &impl Files, name: &str, out: &mut [u8]) -> usize {
     match fs::open(files, name) {
-        Ok(mut file) => read_full(&mut file, out),
+        Ok(mut file) => input::read_full(&mut file, out),
         Err(_) => 0,
     }
 }

@@ -21,7 +21,7 @@ const PLACES: usize = 24;
 
 // An answer of the census: the kind, the number of rows or of the cause, the greatest distance, and the rows in two columns. The filling stands where no row is, and
 // for the distance, which a refusal does not tell.
-#[derive(Drop)]
+#[derive(Clone, Copy)]
 struct Columns {
     lengths: [u8; 24],
     counts: [u8; 24],
@@ -126,12 +126,12 @@ fn expected(kind: usize, value: usize, output: List) -> Columns {
 fn has_rows(found: Columns, wanted: Columns) -> bool {
     let lengths = found.lengths;
     let wanted_lengths = wanted.lengths;
-    if !check::same(&lengths, &wanted_lengths) {
+    if !lists::same_bytes(&lengths, &wanted_lengths) {
         return false;
     }
     let counts = found.counts;
     let wanted_counts = wanted.counts;
-    check::same(&counts, &wanted_counts)
+    lists::same_bytes(&counts, &wanted_counts)
 }
 
 // Whether an answer is the wanted one.

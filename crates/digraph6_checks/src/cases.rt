@@ -7,6 +7,8 @@ use case_text::lists::List;
 use case_text::scores::Score;
 use case_text::{lists, numbers, scores};
 use patterns::Reply;
+use std::io;
+use std::rt::Files;
 
 // Which cases a text has: of codes to lines, of lines to codes, or of both.
 const OUT: usize = 0;
@@ -57,7 +59,7 @@ fn is_answer(found: Written, kind: usize, value: usize, expected: List) -> bool 
     }
     let output = found.bytes;
     let wanted = expected.bytes;
-    check::same(&output, &wanted)
+    lists::same_bytes(&output, &wanted)
 }
 
 // A line is written in runs, a code is not.
@@ -134,21 +136,21 @@ fn run_cases(way: usize, text: &[u8]) -> Score {
 }
 
 // The cases of the file of this name, as the group of this name.
-fn run(way: usize, name: &[u8], group: &[u8]) {
-    let file = scores::load(name);
+fn run(rt: &(impl Files + Print), way: usize, name: &[u8], group: &[u8]) -> io::Result<()> {
+    let file = scores::load(rt, name);
     let bytes = file.bytes;
     let len = numbers::within(file.len, &bytes);
-    scores::report(group, run_cases(way, &bytes[0..len]));
+    scores::report(rt, group, run_cases(way, &bytes[0..len]))
 }
 
-pub fn run_out(name: &[u8], group: &[u8]) {
-    run(OUT, name, group);
+pub fn run_out(rt: &(impl Files + Print), name: &[u8], group: &[u8]) -> io::Result<()> {
+    run(rt, OUT, name, group)
 }
 
-pub fn run_in(name: &[u8], group: &[u8]) {
-    run(IN, name, group);
+pub fn run_in(rt: &(impl Files + Print), name: &[u8], group: &[u8]) -> io::Result<()> {
+    run(rt, IN, name, group)
 }
 
-pub fn run_both(name: &[u8], group: &[u8]) {
-    run(BOTH, name, group);
+pub fn run_both(rt: &(impl Files + Print), name: &[u8], group: &[u8]) -> io::Result<()> {
+    run(rt, BOTH, name, group)
 }

@@ -30,7 +30,7 @@ fn is_answer(found: Written, kind: usize, value: usize, expected: List) -> bool 
     }
     let out = found.bytes;
     let wanted = expected.bytes;
-    check::same(&out, &wanted)
+    lists::same_bytes(&out, &wanted)
 }
 
 // Compares what was found with the answer and the output that stand at a place.

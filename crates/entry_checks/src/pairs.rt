@@ -4,6 +4,8 @@ use case_calls::{answers, calls};
 use case_text::lists::List;
 use case_text::scores::Score;
 use case_text::{lists, numbers, scores};
+use std::io;
+use std::rt::Files;
 
 // The steps of a walk through the list.
 const STEPS: usize = 1000;
@@ -21,7 +23,7 @@ struct Runs {
 }
 
 // The code that a walk has come to, and how many steps were made.
-#[derive(Drop)]
+#[derive(Clone, Copy)]
 struct Walk {
     code: List,
     steps: usize,
@@ -190,23 +192,23 @@ fn run_pairs(text: &[u8]) -> Runs {
     runs
 }
 
-fn report(group: &[u8], held: usize, total: usize) {
-    scores::report(group, Score { held, total });
+fn report(to: &impl Print, group: &[u8], held: usize, total: usize) -> io::Result<()> {
+    scores::report(to, group, Score { held, total })
 }
 
-fn report_runs(found: Runs) {
+fn report_runs(to: &impl Print, found: Runs) -> io::Result<()> {
     let total = found.pairs;
-    report(b"200 points, equal codes", found.codes, total);
-    report(b"200 points, isomorphisms", found.isomorphisms, total);
-    report(b"200 points, maps of codes", found.maps, total);
-    report(b"200 points, successors accepted", found.successors, total);
-    report(b"200 points, 1,000 steps and back", found.returns, total);
+    report(to, b"200 points, equal codes", found.codes, total)?;
+    report(to, b"200 points, isomorphisms", found.isomorphisms, total)?;
+    report(to, b"200 points, maps of codes", found.maps, total)?;
+    report(to, b"200 points, successors accepted", found.successors, total)?;
+    report(to, b"200 points, 1,000 steps and back", found.returns, total)
 }
 
 // The pairs of the file of this name.
-pub fn run(name: &[u8]) {
-    let file = scores::load(name);
+pub fn run(rt: &(impl Files + Print), name: &[u8]) -> io::Result<()> {
+    let file = scores::load(rt, name);
     let bytes = file.bytes;
     let len = numbers::within(file.len, &bytes);
-    report_runs(run_pairs(&bytes[0..len]));
+    report_runs(rt, run_pairs(&bytes[0..len]))
 }

@@ -8,6 +8,8 @@ use case_text::lists::List;
 use case_text::scores::Score;
 use case_text::{lists, numbers, scores};
 use patterns::GreatestPeriod;
+use std::io;
+use std::rt::Files;
 
 const WRITTEN: usize = 0;
 
@@ -25,7 +27,7 @@ struct Answer {
 }
 
 // What a call answered, and all of the output, of which the first places were lent.
-#[derive(Drop)]
+#[derive(Clone, Copy)]
 struct Called {
     output: [u8; 10000],
     kind: usize,
@@ -73,7 +75,7 @@ fn is_kept(output: [u8; 10000], from: usize) -> bool {
     let filled = lists::blank();
     let start = numbers::within(from, &output);
     let same_start = numbers::within(from, &filled);
-    check::same(&output[start..], &filled[same_start..])
+    lists::same_bytes(&output[start..], &filled[same_start..])
 }
 
 // Whether the map of the code has n points and this period.
@@ -159,9 +161,9 @@ fn run_cases(text: &[u8]) -> Score {
 }
 
 // The cases of the file of this name, as the group of this name.
-pub fn run(name: &[u8], group: &[u8]) {
-    let file = scores::load(name);
+pub fn run(rt: &(impl Files + Print), name: &[u8], group: &[u8]) -> io::Result<()> {
+    let file = scores::load(rt, name);
     let bytes = file.bytes;
     let len = numbers::within(file.len, &bytes);
-    scores::report(group, run_cases(&bytes[0..len]));
+    scores::report(rt, group, run_cases(&bytes[0..len]))
 }

@@ -1,5 +1,7 @@
 #![tactic(auto)]
 
-fn main() {
-    listing::run();
+use std::io;
+
+fn main(rt: HostRuntime) -> io::Result<()> {
+    listing::run(&rt)
 }

@@ -1,13 +1,14 @@
 // The text that the listing program writes for an input: a list for a count of points, and a line of its own for anything else.
 use case_text::scores::Score;
-use case_text::{numbers, scores};
+use case_text::{lists, numbers, scores};
+use std::rt::Files;
 
 // Whether what the program writes for an input is the text.
 fn is_text(input: &[u8], text: &[u8]) -> bool {
-    let mut out = io::large_buffer();
+    let mut out = [0; 65536];
     let end = listing::text_into(input, &mut out);
     let len = numbers::within(end, &out);
-    check::same(&out[0..len], text)
+    lists::same_bytes(&out[0..len], text)
 }
 
 fn digit(n: u8) -> u8 {
@@ -18,9 +19,9 @@ fn digit(n: u8) -> u8 {
 }
 
 // Whether the program lists n points as the file does.
-fn is_listing(n: u8) -> bool {
+fn is_listing(files: &impl Files, n: u8) -> bool {
     let name = [b'l', b'i', b's', b't', b'i', b'n', b'g', b'_', digit(n)];
-    let file = scores::load(&name);
+    let file = scores::load(files, &name);
     let bytes = file.bytes;
     let len = numbers::within(file.len, &bytes);
     let input = [digit(n), b'\n'];
@@ -28,11 +29,11 @@ fn is_listing(n: u8) -> bool {
 }
 
 // How many of the listings of 0 to 8 points are those of the files.
-pub fn listings() -> Score {
+pub fn listings(files: &impl Files) -> Score {
     let mut held = 0;
     let mut n = 0;
     while n < 9 {
-        held = numbers::counted(held, is_listing(n));
+        held = numbers::counted(held, is_listing(files, n));
         n += 1;
     }
     Score { held, total: 9 }

@@ -8,9 +8,10 @@ ghost use Rattle.lister.specs.Good.{Good};
 ghost use Rattle.listing.specs.Pieces.{FirstPiece};
 
 use count_line::{Parsed, parse};
-use libc::{STDIN_FILENO, STDOUT_FILENO};
 use lister::{Phase, State, state_at};
 use pieces::{ROOM, piece};
+use std::io;
+use std::io::Write;
 
 // The state before anything is written.
 fn start(input: &[u8]) -> State
@@ -39,27 +40,42 @@ fn buffer() -> [u8; 16384]
     [0; 16384]
 }
 
-// Writes the text that is to come, piece after piece, to standard output, and answers the last state: it ends only where nothing is left.
-fn write_pieces(first: State, out: &mut [u8]) -> State
+// The last state of a run, and whether all of its text was written.
+#[derive(Drop)]
+struct Written {
+    last: State,
+    outcome: io::Result<()>,
+}
+
+// Writes the text that is to come, piece after piece, and answers the last state: it ends only where nothing is left. After a write that fails nothing more is
+// written.
+fn write_pieces(first: State, out: &mut [u8], to: &mut impl Write) -> Written
     requires { Good first × (4096 ≤ length out.old) }
-    ensures { remaining result ≡ [] }
+    ensures { remaining result.last ≡ [] }
 {
     let mut state = first;
+    let mut outcome = Ok(());
     loop {
         let step = piece(state, out);
         let len = step.len;
         state = step.next;
         if len == 0 {
-            return state;
+            return Written {
+                last: state,
+                outcome,
+            };
         }
-        io::write_all(STDOUT_FILENO, &out[..len]);
+        if outcome.is_ok() {
+            outcome = to.write_all(&out[..len]);
+        }
     }
 }
 
 // The whole program. Four bytes of the input tell what it says.
-pub fn run() {
+pub fn run(rt: &(impl Input + Print)) -> io::Result<()> {
     let mut input = [0u8; 4];
-    let len = io::read_full(STDIN_FILENO, &mut input);
+    let len = input::read_full(&mut rt.reader(), &mut input);
     let mut out = buffer();
-    write_pieces(start(&input[..len]), &mut out);
+    let written = write_pieces(start(&input[..len]), &mut out, &mut io::writer(rt));
+    written.outcome
 }

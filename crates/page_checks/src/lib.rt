@@ -5,6 +5,8 @@ use case_text::lists::List;
 use case_text::scores::Score;
 use case_text::{lists, numbers, scores};
 use patterns::Page;
+use std::io;
+use std::rt::Files;
 
 const WRITTEN: usize = 0;
 
@@ -19,7 +21,7 @@ struct Answer {
 }
 
 // What a call answered, and all of the output, of which the first `room` places were lent.
-#[derive(Drop)]
+#[derive(Clone, Copy)]
 struct Called {
     output: [u8; 10000],
     room: usize,
@@ -82,7 +84,7 @@ fn is_answer(called: Called, kind: usize, codes: usize, bytes: usize, expected: 
     }
     let output = called.output;
     let wanted = expected.bytes;
-    check::same(&output, &wanted)
+    lists::same_bytes(&output, &wanted)
 }
 
 // Compares a call with the answer and the output that stand at a place.
@@ -123,9 +125,9 @@ fn run_cases(text: &[u8]) -> Score {
 }
 
 // The cases of the file of this name, as the group of this name.
-pub fn run(name: &[u8], group: &[u8]) {
-    let file = scores::load(name);
+pub fn run(rt: &(impl Files + Print), name: &[u8], group: &[u8]) -> io::Result<()> {
+    let file = scores::load(rt, name);
     let bytes = file.bytes;
     let len = numbers::within(file.len, &bytes);
-    scores::report(group, run_cases(&bytes[0..len]));
+    scores::report(rt, group, run_cases(&bytes[0..len]))
 }

@@ -5,6 +5,8 @@ use case_text::lists::List;
 use case_text::scores::Score;
 use case_text::{lists, numbers, scores};
 use patterns::Stretch;
+use std::io;
+use std::rt::Files;
 
 const PART: usize = 0;
 
@@ -54,7 +56,7 @@ fn is_answer(given: Answer, expected: Answer) -> bool {
 // Whether the part at a position is exactly `part`.
 fn is_part(code: &[u8], position: usize, part: &[u8]) -> bool {
     let shown = component_reader::component(code, position);
-    check::same(shown, part)
+    lists::same_bytes(shown, part)
 }
 
 // Whether the part at a position is the list.
@@ -117,9 +119,9 @@ fn run_cases(text: &[u8]) -> Score {
 }
 
 // The cases of the file of this name.
-pub fn run(name: &[u8]) {
-    let file = scores::load(name);
+pub fn run(rt: &(impl Files + Print), name: &[u8]) -> io::Result<()> {
+    let file = scores::load(rt, name);
     let bytes = file.bytes;
     let len = numbers::within(file.len, &bytes);
-    scores::report(b"component reader", run_cases(&bytes[0..len]));
+    scores::report(rt, b"component reader", run_cases(&bytes[0..len]))
 }
