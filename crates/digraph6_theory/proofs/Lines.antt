@@ -2,7 +2,7 @@
 use mathlib.Core.Path.{◌≡◌, refl, ap, ◌∙◌}
 use mathlib.Core.Bool.{true}
 use mathlib.Core.List.{List, ◌++◌}
-use Prim.Native.Nat.{ℕ, ◌+◌, ◌-◌, ◌*◌, ◌≤◌}
+use Prim.Native.Nat.{ℕ, ◌-◌, ◌*◌, ◌≤◌}
 use native.Mathlib.Omega.{arith}
 use lib.Dec.{eqb}
 use lib.ListN.{length, drop, replicate}
@@ -42,17 +42,17 @@ is_body f =
     ∙ ap (each (eqb 0)) (drop_at (matrix f) (replicate (padding f) 0) (n * n) (rows-length n f))
     ∙ zeros (padding f))
 
-module _ (LineForm RowForm : Refusal) where
-  body_back : (f : List ℕ) → is_table f ≡ true → read_line_body LineForm RowForm (length f) (body_of f) ≡ done f
+module _ (line_form row_form : Refusal) where
+  body_back : (f : List ℕ) → is_table f ≡ true → read_line_body line_form row_form (length f) (body_of f) ≡ done f
   unfolding read_line_body
   body_back f t =
       let n = length f in
-      cond-true (read_rows RowForm n n (gather bits_of (body_of f))) (fault LineForm) (is_body f)
-      ∙ ap (read_rows RowForm n n) (body-bits f)
-      ∙ rows_back RowForm n f (replicate (padding f) 0) t
+      cond-true (read_rows row_form n n (gather bits_of (body_of f))) (fault line_form) (is_body f)
+      ∙ ap (read_rows row_form n n) (body-bits f)
+      ∙ rows_back row_form n f (replicate (padding f) 0) t
 
-  pub line-back : (f : List ℕ) → is_table f ≡ true → length f ≤ 200 → read_line LineForm RowForm (digraph6 f) ≡ done f
+  pub line-back : (f : List ℕ) → is_table f ≡ true → length f ≤ 200 → read_line line_form row_form (digraph6 f) ≡ done f
   unfolding read_line digraph6
   line-back f t h =
       let size = size_field (length f) in
-      rw (count-back LineForm (length f) (body_of f) h, drop_at size (body_of f) (length size) refl) (body_back f t)
+      rw (count-back line_form (length f) (body_of f) h, drop_at size (body_of f) (length size) refl) (body_back f t)

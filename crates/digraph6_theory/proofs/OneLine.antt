@@ -2,7 +2,7 @@
 use mathlib.Core.Path.{◌≡◌, ap, ap₂, sym, ◌∙◌}
 use mathlib.Core.Bool.{true, ◌&&◌}
 use mathlib.Core.List.{List, [], ◌∷◌, ◌++◌}
-use Prim.Native.Nat.{ℕ, ◌+◌, ◌-◌, ◌*◌, ◌≤◌}
+use Prim.Native.Nat.{ℕ, ◌*◌, ◌≤◌}
 use native.Mathlib.Omega.{arith}
 use lib.Dec.{eqb}
 use lib.ListN.{length, take, drop, take-append-drop}
@@ -43,25 +43,25 @@ BodyOf n body f = (length f ≡ n) × (all_below n f ≡ true) × (body ≡ pack
 abbrev LineOf : List ℕ → List ℕ → Type 0
 LineOf l f = (length f ≤ 200) × (is_table f ≡ true) × (l ≡ digraph6 f)
 
-module _ (LineForm RowForm : Refusal) where
-  body-good : (n : ℕ) (body : List ℕ) → Good (BodyOf n body) (read_line_body LineForm RowForm n body)
+module _ (line_form row_form : Refusal) where
+  body-good : (n : ℕ) (body : List ℕ) → Good (BodyOf n body) (read_line_body line_form row_form n body)
   unfolding read_line_body
   body-good n body =
       let bits = gather bits_of body in
       choose-case (Good (BodyOf n body)) (is_line_body n body)
-      (λ t. good-weaken (RowsOf n n bits) (BodyOf n body) (read_rows RowForm n n bits)
-      (rows-good RowForm n n bits (unpacked-bits body) (omega (arith, unpacked-length body, body-length n body t, body-holds n))) (λ f q.
+      (λ t. good-weaken (RowsOf n n bits) (BodyOf n body) (read_rows row_form n n bits)
+      (rows-good row_form n n bits (unpacked-bits body) (omega (arith, unpacked-length body, body-length n body t, body-holds n))) (λ f q.
       (q.0, q.1, body-packed n body t ∙ ap (packed (body_length n)) q.2)))
       (λ t. tt)
 
-  line-good : (l : List ℕ) → Good (LineOf l) (read_line LineForm RowForm l)
+  line-good : (l : List ℕ) → Good (LineOf l) (read_line line_form row_form l)
   unfolding read_line digraph6
   line-good [] = tt
   line-good (x ∷ s) =
       choose-case (Good (LineOf (x ∷ s))) (eqb x 38)
-      (λ t. good-then (Counted s) (LineOf (x ∷ s)) (read_count LineForm s)
-      (λ p. read_line_body LineForm RowForm p.0 (drop p.1 s)) (count-good LineForm s) (λ p q.
-      good-weaken (BodyOf p.0 (drop p.1 s)) (LineOf (x ∷ s)) (read_line_body LineForm RowForm p.0 (drop p.1 s))
+      (λ t. good-then (Counted s) (LineOf (x ∷ s)) (read_count line_form s)
+      (λ p. read_line_body line_form row_form p.0 (drop p.1 s)) (count-good line_form s) (λ p q.
+      good-weaken (BodyOf p.0 (drop p.1 s)) (LineOf (x ∷ s)) (read_line_body line_form row_form p.0 (drop p.1 s))
       (body-good p.0 (drop p.1 s)) (λ f b. (
         omega (arith, q.0, b.0),
         ap (λ n. all_below n f) b.0 ∙ b.1,
@@ -70,11 +70,11 @@ module _ (LineForm RowForm : Refusal) where
       (λ t. tt)
 
   -- only the line of a table is read as that table
-  pub line-only : (l f : List ℕ) → read_line LineForm RowForm l ≡ done f → l ≡ digraph6 f
-  line-only l f e = (good-done (LineOf l) (read_line LineForm RowForm l) f e (line-good l)).2
+  pub line-only : (l f : List ℕ) → read_line line_form row_form l ≡ done f → l ≡ digraph6 f
+  line-only l f e = (good-done (LineOf l) (read_line line_form row_form l) f e (line-good l)).2
 
   -- what is read is a table of at most 200 points
-  pub line-table : (l f : List ℕ) → read_line LineForm RowForm l ≡ done f → (length f ≤ 200) × (is_table f ≡ true)
+  pub line-table : (l f : List ℕ) → read_line line_form row_form l ≡ done f → (length f ≤ 200) × (is_table f ≡ true)
   line-table l f e =
-      let g = good-done (LineOf l) (read_line LineForm RowForm l) f e (line-good l) in
+      let g = good-done (LineOf l) (read_line line_form row_form l) f e (line-good l) in
       (g.0, g.1)

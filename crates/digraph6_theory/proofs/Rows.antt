@@ -2,7 +2,7 @@
 use mathlib.Core.Path.{◌≡◌, refl, ap, ap₂, sym, ◌∙◌}
 use mathlib.Core.Bool.{true, cond}
 use mathlib.Core.List.{List, [], ◌∷◌, ◌++◌, append_assoc}
-use Prim.Native.Nat.{ℕ, zero, suc, ◌+◌, ◌-◌, ◌*◌, ◌≤◌, ◌<◌}
+use Prim.Native.Nat.{ℕ, zero, suc, ◌+◌, ◌*◌, ◌≤◌, ◌<◌}
 use native.Mathlib.Nat.{zero-add, zero-mul, suc-mul}
 use native.Mathlib.Omega.{arith}
 use lib.Dec.{eqb}
@@ -83,9 +83,9 @@ rows-bits n f = bit_at (gather (row n) f) (rows-below n f)
 abbrev pub RowsOf : ℕ → ℕ → List ℕ → List ℕ → Type 0
 RowsOf n k bits f = (length f ≡ k) × (all_below n f ≡ true) × (take (k * n) bits ≡ gather (row n) f)
 
-module _ (RowForm : Refusal) where
+module _ (row_form : Refusal) where
   -- the rows of a table are read back
-  pub rows_back : (n : ℕ) (f rest : List ℕ) → all_below n f ≡ true → read_rows RowForm n (length f) (gather (row n) f ++ rest) ≡ done f
+  pub rows_back : (n : ℕ) (f rest : List ℕ) → all_below n f ≡ true → read_rows row_form n (length f) (gather (row n) f ++ rest) ≡ done f
   unfolding read_rows
   rows_back n [] rest e = refl
   rows_back n (y ∷ f) rest e =
@@ -98,22 +98,22 @@ module _ (RowForm : Refusal) where
         rows_back n f rest (below-tail n y f e),
       )
 
-  only-mark-good : (l : List ℕ) → Good (λ y. l ≡ y ∷ []) (only_mark RowForm l)
+  only-mark-good : (l : List ℕ) → Good (λ y. l ≡ y ∷ []) (only_mark row_form l)
   only-mark-good [] = tt
   only-mark-good (y ∷ []) = refl
   only-mark-good (y ∷ z ∷ l) = tt
 
   -- rows that are read are those of what was read
-  pub rows-good : (n k : ℕ) (bits : List ℕ) → Bits bits → k * n ≤ length bits → Good (RowsOf n k bits) (read_rows RowForm n k bits)
+  pub rows-good : (n k : ℕ) (bits : List ℕ) → Bits bits → k * n ≤ length bits → Good (RowsOf n k bits) (read_rows row_form n k bits)
   unfolding read_rows
   rows-good n zero bits b h = (refl, refl, rw (zero-mul n))
   rows-good n (suc k) bits b h =
       let r = take n bits in
       let l : length r ≡ n = length-take-le n bits (omega (arith, suc-mul k n)) in
-      good-then (λ y. marks r ≡ y ∷ []) (RowsOf n (suc k) bits) (only_mark RowForm (marks r)) (λ y. mapped (y ∷◌) (read_rows RowForm n k (drop n bits)))
+      good-then (λ y. marks r ≡ y ∷ []) (RowsOf n (suc k) bits) (only_mark row_form (marks r)) (λ y. mapped (y ∷◌) (read_rows row_form n k (drop n bits)))
       (only-mark-good (marks r)) (λ y e.
       let first : r ≡ row n y = mark-row r y e (λ i g. rw (get_or-take n bits i 0 (omega arith)) (b i)) ∙ ap (λ m. row m y) l in
-      good-mapped (RowsOf n k (drop n bits)) (RowsOf n (suc k) bits) (read_rows RowForm n k (drop n bits)) (y ∷◌)
+      good-mapped (RowsOf n k (drop n bits)) (RowsOf n (suc k) bits) (read_rows row_form n k (drop n bits)) (y ∷◌)
       (rows-good n k (drop n bits) (λ i. rw (get_or-drop n bits i 0) (b (n + i))) (omega (arith, suc-mul k n, length-drop n bits))) (λ f q.
       let count : suc k * n ≡ n + k * n = omega (arith, suc-mul k n) in (
         ap suc q.0,

@@ -60,8 +60,8 @@ four_bytes (x ∷ a ∷ b ∷ c ∷ s) p h q e =
 pub size_field-length : (n : ℕ) → length (size_field n) ≤ 4
 size_field-length n = choose-case (λ l. length l ≤ 4) (ltb n 63) (λ t. omega arith) (λ t. omega arith)
 
-module _ (LineForm : Refusal) where
-  sized-good : (j k : ℕ) (s : List ℕ) → Good (Digits j k s) (sized LineForm j k s)
+module _ (line_form : Refusal) where
+  sized-good : (j k : ℕ) (s : List ℕ) → Good (Digits j k s) (sized line_form j k s)
   unfolding sized
   sized-good j k s =
       let digits = take k (drop j s) in
@@ -70,25 +70,25 @@ module _ (LineForm : Refusal) where
       (refl, refl, eqb-true (length digits) k h.0, h.1))
       (λ t. tt)
 
-  size-good : (s : List ℕ) → Good (Fronts s) (read_size LineForm s)
+  size-good : (s : List ℕ) → Good (Fronts s) (read_size line_form s)
   unfolding read_size
   size-good s =
       choose-case (Good (Fronts s)) (eqb (get_or s 0 0) 126)
       (λ t. choose-case (Good (Fronts s)) (eqb (get_or s 1 0) 126)
-      (λ u. good-weaken (Digits 2 6 s) (Fronts s) (sized LineForm 2 6 s) (sized-good 2 6 s) (λ p q e. absurd (omega (arith, q.1, size_field-length p.0))))
-      (λ u. good-weaken (Digits 1 3 s) (Fronts s) (sized LineForm 1 3 s) (sized-good 1 3 s) (λ p q. four_bytes s p (eqb-true (get_or s 0 0) 126 t) q)))
-      (λ t. good-weaken (Digits 0 1 s) (Fronts s) (sized LineForm 0 1 s) (sized-good 0 1 s) (λ p q. one_byte s p (eqb-false (get_or s 0 0) 126 t) q))
+      (λ u. good-weaken (Digits 2 6 s) (Fronts s) (sized line_form 2 6 s) (sized-good 2 6 s) (λ p q e. absurd (omega (arith, q.1, size_field-length p.0))))
+      (λ u. good-weaken (Digits 1 3 s) (Fronts s) (sized line_form 1 3 s) (sized-good 1 3 s) (λ p q. four_bytes s p (eqb-true (get_or s 0 0) 126 t) q)))
+      (λ t. good-weaken (Digits 0 1 s) (Fronts s) (sized line_form 0 1 s) (sized-good 0 1 s) (λ p q. one_byte s p (eqb-false (get_or s 0 0) 126 t) q))
 
-  pub count-good : (s : List ℕ) → Good (Counted s) (read_count LineForm s)
+  pub count-good : (s : List ℕ) → Good (Counted s) (read_count line_form s)
   unfolding read_count
   count-good s =
-      good-then (Fronts s) (Counted s) (read_size LineForm s) (λ p. cond (ltb 200 p.0) (fault Count) (shortest LineForm p)) (size-good s) (λ p q.
+      good-then (Fronts s) (Counted s) (read_size line_form s) (λ p. cond (ltb 200 p.0) (fault Count) (shortest line_form p)) (size-good s) (λ p q.
       choose-case (Good (Counted s)) (ltb 200 p.0) (λ t. tt) (λ t.
       choose-case (Good (Counted s)) (eqb p.1 (length (size_field p.0)))
       (λ u. (ltb-false 200 p.0 t, q (eqb-true p.1 (length (size_field p.0)) u))) (λ u. tt)))
 
   -- the shortest form of n is read back as n
-  pub count-back : (n : ℕ) (rest : List ℕ) → n ≤ 200 → read_count LineForm (size_field n ++ rest) ≡ done (n, length (size_field n))
+  pub count-back : (n : ℕ) (rest : List ℕ) → n ≤ 200 → read_count line_form (size_field n ++ rest) ≡ done (n, length (size_field n))
   unfolding read_count
   count-back n rest h =
       by-test (ltb n 63)

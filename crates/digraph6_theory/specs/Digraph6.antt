@@ -1,5 +1,5 @@
 -- digraph6 lines: document 02, paper 10; the description of its formats that nauty gives: N(n), R(x), "digraph6". These definitions move to patterns with the paper;
--- no promise cites them yet. Causes 14 and 15 come with the paper too, so the reading side is over two causes: LineForm for a line out of the format, RowForm for a
+-- no promise cites them yet. Causes 14 and 15 come with the paper too, so the reading side is over two causes: line_form for a line out of the format, row_form for a
 -- row without exactly one mark.
 use Rattle.std.specs.Prelude.{Bool, ◌&&◌, ℕ, zero, suc, ◌+◌, ◌-◌, ◌*◌, ◌/◌, ◌%◌, leb, ltb, eqb, length, get_or, take, drop}
 use Rattle.std.proofs.Math.Bool.{cond}
@@ -62,12 +62,12 @@ is_mark r j = eqb (get_or r j 0) 1
 abbrev pub marks : List ℕ → List ℕ
 marks r = keep (is_mark r) (range 0 (length r))
 
-module _ (LineForm : Refusal) where
+module _ (line_form : Refusal) where
   -- a number in the k bytes after the first j, and how many bytes the size takes
   unfoldable pub sized : ℕ → ℕ → List ℕ → Result (ℕ × ℕ)
   sized j k s =
       let digits = take k (drop j s) in
-      cond (eqb (length digits) k && each in_format digits) (done (number 0 digits, j + k)) (fault LineForm)
+      cond (eqb (length digits) k && each in_format digits) (done (number 0 digits, j + k)) (fault line_form)
 
   -- 126 twice: six bytes follow; 126 once: three; else the number is in one byte
   unfoldable pub read_size : List ℕ → Result (ℕ × ℕ)
@@ -78,36 +78,36 @@ module _ (LineForm : Refusal) where
 
   -- the size has the shortest form
   abbrev pub shortest : ℕ × ℕ → Result (ℕ × ℕ)
-  shortest p = cond (eqb p.1 (length (size_field p.0))) (done p) (fault LineForm)
+  shortest p = cond (eqb p.1 (length (size_field p.0))) (done p) (fault line_form)
 
   -- a count above 200 is refused in every form, and only then a longer form than needed
   unfoldable pub read_count : List ℕ → Result (ℕ × ℕ)
   unfolding read_size
   read_count s = and_then (read_size s) (λ p. cond (ltb 200 p.0) (fault Count) (shortest p))
 
-module _ (RowForm : Refusal) where
+module _ (row_form : Refusal) where
   -- exactly one mark is a point's image
   abbrev pub only_mark : List ℕ → Result ℕ
-  only_mark [] = fault RowForm
+  only_mark [] = fault row_form
   only_mark (y ∷ []) = done y
-  only_mark (y ∷ z ∷ l) = fault RowForm
+  only_mark (y ∷ z ∷ l) = fault row_form
 
   -- k rows of n bits
   unfoldable pub read_rows : ℕ → ℕ → List ℕ → Result (List ℕ)
   read_rows n zero bits = done []
   read_rows n (suc k) bits = and_then (only_mark (marks (take n bits))) (λ y. mapped (y ∷◌) (read_rows n k (drop n bits)))
 
-module _ (LineForm RowForm : Refusal) where
+module _ (line_form row_form : Refusal) where
   unfoldable pub read_line_body : ℕ → List ℕ → Result (List ℕ)
   unfolding read_rows
   read_line_body n body =
-      let rows = read_rows RowForm n n (gather bits_of body) in
-      cond (is_line_body n body) rows (fault LineForm)
+      let rows = read_rows row_form n n (gather bits_of body) in
+      cond (is_line_body n body) rows (fault line_form)
 
   -- the map of a line
   unfoldable pub read_line : List ℕ → Result (List ℕ)
   unfolding read_count read_line_body
-  read_line [] = fault LineForm
+  read_line [] = fault line_form
   read_line (x ∷ s) =
-      let more = and_then (read_count LineForm s) (λ p. read_line_body p.0 (drop p.1 s)) in
-      cond (eqb x 38) more (fault LineForm)
+      let more = and_then (read_count line_form s) (λ p. read_line_body p.0 (drop p.1 s)) in
+      cond (eqb x 38) more (fault line_form)

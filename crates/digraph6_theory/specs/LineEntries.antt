@@ -15,6 +15,6 @@ unfolding accepted map_of digraph6
 line_of_code b = outcome (accepted b) (λ S. gives (digraph6 (map_of S)))
 
 -- Entry "code of a line"
-unfoldable pub code_of_line : (LineForm RowForm : Refusal) → List ℕ → Outcome ℕ
+unfoldable pub code_of_line : (line_form row_form : Refusal) → List ℕ → Outcome ℕ
 unfolding read_line system_of_table written
-code_of_line LineForm RowForm l = outcome (read_line LineForm RowForm l) (λ f. gives (written (system_of_table f)))
+code_of_line line_form row_form l = outcome (read_line line_form row_form l) (λ f. gives (written (system_of_table f)))
