@@ -1,6 +1,6 @@
 #!/usr/bin/env python3
-"""make_data.py [--write]: makes the files of crates/checks/data anew, from tools/plain_listing.py and tools/plain_model.py. They go to target/checks-data and are
-compared with those in crates/checks/data; with --write they go there. tools/README.md says what each file holds."""
+"""make_data.py [--write]: makes the files of crates/checks/data and crates/line_checks/data anew, from tools/plain_listing.py and tools/plain_model.py. They go to target/checks-data and are
+compared with those in these; with --write they go there. tools/README.md says what each file holds."""
 import filecmp
 import itertools
 import math
@@ -12,7 +12,9 @@ import plain_model as model
 
 TOP = os.path.join(os.path.dirname(os.path.realpath(__file__)), "..")
 KEPT = os.path.join(TOP, "crates", "checks", "data")
-MADE = KEPT if sys.argv[1:] == ["--write"] else os.path.join(TOP, "target", "checks-data")
+LINES = os.path.join(TOP, "crates", "line_checks", "data")
+WRITE = sys.argv[1:] == ["--write"]
+MADE = os.path.join(TOP, "target", "checks-data")
 ACCEPT, FIRST, SUCCESSOR, CODE_OF_MAP, MAP_OF_CODE, ISOMORPHISM, CENSUS, PREDECESSOR, SUM, PRODUCT, TABLE_COUNT, PERIOD = range(1, 13)
 KINDS = {"length": 0, "last": 1, "none": 2, "refused": 3, "first": 4, "census": 0, "part": 0, "page": 0, "number": 0}
 WIDE = 1000
@@ -158,14 +160,15 @@ def distinct(lines):
 
 def save(name, lines):
     """Writes a file, a line of numbers each, and says whether it is the one that is kept."""
-    made, kept = os.path.join(MADE, name), os.path.join(KEPT, name)
+    folder = LINES if name.startswith("digraph6_") else KEPT
+    made, kept = os.path.join(folder if WRITE else MADE, name), os.path.join(folder, name)
     with open(made, "w") as out:
         for line in lines:
             out.write(" ".join(map(str, line)) + "\n")
     size = os.path.getsize(made)
     assert size < 2**16, name
     same = os.path.exists(kept) and filecmp.cmp(made, kept, shallow=False)
-    print(f"{name}: {len(lines)} lines, {size} bytes" + ("" if same else ", not as in crates/checks/data"))
+    print(f"{name}: {len(lines)} lines, {size} bytes" + ("" if same else ", not as in " + os.path.relpath(folder, TOP)))
     return same
 
 
@@ -1499,7 +1502,7 @@ def main():
     files += [("greatest", greatest()), ("digraph6_out", digraph6_out()), ("digraph6_out_long", digraph6_out_long()), ("digraph6_in", digraph6_in())]
     files += [("digraph6_sizes", digraph6_sizes()), ("digraph6_in_long", digraph6_in_long()), ("digraph6_back", digraph6_back())]
     other = sum(not save(name, lines) for name, lines in files)
-    print(f"{len(files)} files in {os.path.relpath(MADE)}, {other} not as in crates/checks/data")
+    print(f"{len(files)} files, {other} not as those that are kept")
     return 1 if other else 0
 
 

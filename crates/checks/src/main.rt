@@ -38,15 +38,6 @@ fn run_sums(rt: &(impl Files + Print)) -> io::Result<()> {
     run_file(rt, b"products_long", b"long products")
 }
 
-fn run_lines(rt: &(impl Files + Print)) -> io::Result<()> {
-    digraph6_checks::run_out(rt, b"digraph6_out", b"digraph6 of codes")?;
-    digraph6_checks::run_out(rt, b"digraph6_out_long", b"digraph6 of long codes")?;
-    digraph6_checks::run_in(rt, b"digraph6_in", b"codes of digraph6")?;
-    digraph6_checks::run_in(rt, b"digraph6_sizes", b"sizes of digraph6")?;
-    digraph6_checks::run_in(rt, b"digraph6_in_long", b"codes of long digraph6")?;
-    digraph6_checks::run_both(rt, b"digraph6_back", b"digraph6 in and out")
-}
-
 fn main(rt: HostRuntime) -> io::Result<()> {
     run_file(&rt, b"examples", b"examples")?;
     list_checks::run(&rt)?;
@@ -56,7 +47,6 @@ fn main(rt: HostRuntime) -> io::Result<()> {
     run_file(&rt, b"table_counts", b"numbers of tables")?;
     run_file(&rt, b"periods", b"periods")?;
     greatest_checks::run(&rt, b"greatest", b"greatest periods")?;
-    run_lines(&rt)?;
     page_checks::run(&rt, b"pages", b"pages of codes")?;
     page_checks::run(&rt, b"pages_long", b"long pages")?;
     reader_checks::run(&rt, b"components")?;
