@@ -90,9 +90,9 @@ unfolding read_line
 unmarked [] h = refl
 unmarked (x ∷ s) h = rw (ne_eqb x 38 h)
 
-pub marked-some : (l : List ℕ) → get_or l 0 0 ≡ 38 → 1 ≤ length l
-marked-some [] h = absurd (omega arith)
-marked-some (x ∷ s) h = omega arith
+pub marked-some : (l : List ℕ) (k : ℕ) → 0 < k → get_or l 0 0 ≡ k → 1 ≤ length l
+marked-some [] k p h = absurd (omega arith)
+marked-some (x ∷ s) k p h = omega arith
 
 pub marked : (l : List ℕ) {r : Reply} {table : List ℕ} → get_or l 0 0 ≡ 38 → LineRead (read_sized (part_from 1 l)) r table → LineRead (read_line l) r table
 unfolding read_line
