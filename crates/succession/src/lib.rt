@@ -9,8 +9,8 @@ ghost use Rattle.component_theory.specs.Successor.{beyond_early, beyond_late, ne
 ghost use Rattle.children.specs.Candidates.{Gave};
 ghost use Rattle.scanning.specs.HeldNodes.{Node, AsLong};
 
-use lists::copy;
 use generation::{Sibling, first_child, next_sibling, opening};
+use lists::copy;
 use trees::count;
 
 // Whether a component comes before its descendants: forward at even depth, backward at odd depth.

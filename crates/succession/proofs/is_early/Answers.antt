@@ -1,0 +1,18 @@
+use mathlib.Core.Path.{ap, sym, ◌∙◌}
+use mathlib.Core.Bool.{not}
+use Rattle.component_theory.specs.LocalStep.{early}
+use Rattle.succession.proofs.Following.{count-within, depth-even}
+use Rattle.succession.proofs.is_early.Goals as goal
+
+pub overflow_sub-depth : goal.overflow_sub-depth
+overflow_sub-depth c = let p = c.requires in count-within c.count.result c.count.ensures p.trees p.is
+
+pub returns-then-forward : goal.returns-then-forward
+returns-then-forward c =
+    let n = c.count in
+    λ d e. sym (ap (λ b. early b d) c.if-forward.true ∙ depth-even n.result n.ensures d e)
+
+pub returns : goal.returns
+returns c =
+    let n = c.count in
+    λ d e. sym (ap (λ b. early b d) c.if-forward.false ∙ ap not (depth-even n.result n.ensures d e))
