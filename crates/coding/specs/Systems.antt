@@ -1,5 +1,5 @@
 -- What the functions that collect components into a system find and leave in lent slices.
-use Rattle.std.specs.Prelude.{◌≡◌, List, map, ℕ, ◌-◌, ◌≤◌, length, take}
+use Rattle.std.specs.Prelude.{◌≡◌, List, map, ℕ, ◌≤◌, length, take}
 use Rattle.lists.specs.Select.{gather}
 use Rattle.patterns.specs.Component.{points, flat}
 use Rattle.patterns.specs.Table.{system_of_table}
