@@ -1,6 +1,6 @@
 -- The first component of a system in memory gives way to its successor, and the components to the right of it are filled in.
 use mathlib.Core.Path.{◌≡◌, refl, ap, ap₂, sym, ◌∙◌}
-use mathlib.Core.Bool.{Bool, true, false, not, true≢false}
+use mathlib.Core.Bool.{Bool, true, false, true≢false}
 use mathlib.Core.List.{List, ◌∷◌, ◌++◌, map, head-eq_of_cons-eq}
 use mathlib.Core.Option.{Option, none, some}
 use Prim.Native.Nat.{ℕ, ◌≤◌, ◌<◌}
@@ -49,10 +49,9 @@ module _ {c : Component} {T : System} {sizes trees : List ℕ} (h : Holds (c ∷
   ahead-sum = ap sum h.points_are ∙ total-map (λ s. s) points (c ∷ T) ∙ sym (held-points h)
 
   -- its successor, if there is one, in front of what is filled in to the right of it
-  found : valid_component c ≡ true → (o : Option Component) → o ≡ successor c → (r : Bool) (last rest after : List ℕ) → Gave o r last → not r ≡ false
+  found : valid_component c ≡ true → (o : Option Component) → o ≡ successor c → (r : Bool) (last rest after : List ℕ) → Gave o r last → r ≡ true
       → after ≡ gather (fill_trees (take (get_or sizes 0 0) (last ++ rest))) sizes → Advanced o (λ d. fills d (map points T)) true trees after
-  found v none e true last rest after g f q = absurd (true≢false g)
-  found v none e false last rest after g f q = absurd (true≢false f)
+  found v none e r last rest after g f q = absurd (true≢false (sym f ∙ g))
   found v (some d) e r last rest after g f q =
       let p = neighbour-valid true c d v (sym e) in
       let n : length last ≡ get_or sizes 0 0 = ap length g.1 ∙ length-flat d ∙ p.1 ∙ sym ahead-size in (
@@ -64,10 +63,9 @@ module _ {c : Component} {T : System} {sizes trees : List ℕ} (h : Holds (c ∷
             ∙ ap (gather flat) (sym (fill_here d (points c) (map points T) p.1)),
       )
 
-  pub advanced-missing : (o : Option Component) (filling : Component → System) (r : Bool) (last : List ℕ) → Gave o r last → not r ≡ true → Advanced o filling false trees trees
+  pub advanced-missing : (o : Option Component) (filling : Component → System) (r : Bool) (last : List ℕ) → Gave o r last → r ≡ false → Advanced o filling false trees trees
   advanced-missing none filling r last g f = (refl, refl)
-  advanced-missing (some d) filling true last g f = absurd (true≢false (sym f))
-  advanced-missing (some d) filling false last g f = absurd (true≢false (sym g.0))
+  advanced-missing (some d) filling r last g f = absurd (true≢false (sym g.0 ∙ f))
 
 module _ {sizes trees up side out : List ℕ} (w : HeldAhead sizes trees up side out) where
   ahead-short : get_or sizes 0 0 ≤ length trees
@@ -90,10 +88,10 @@ module _ {sizes trees up side out : List ℕ} (w : HeldAhead sizes trees up side
       record { trees = w.first; is = ahead-part w.holds; valid = w.valid; small = omega (arith, ahead-length, ahead-short, w.small) }
 
   module _ (r : Bool) (last : List ℕ) (g : (c : Component) → take (get_or sizes 0 0) trees ≡ flat c → Gave (successor c) r last) where
-    pub advance-none : not r ≡ true → (c : Component) (T : System) → Holds (c ∷ T) sizes trees → Advanced (successor c) (λ d. fills d (map points T)) false trees trees
+    pub advance-none : r ≡ false → (c : Component) (T : System) → Holds (c ∷ T) sizes trees → Advanced (successor c) (λ d. fills d (map points T)) false trees trees
     advance-none f c T h = advanced-missing h (successor c) (λ d. fills d (map points T)) r last (g c (ahead-part h)) f
 
-    pub advance-some : not r ≡ false → (rest after : List ℕ) → after ≡ gather (fill_trees (take (get_or sizes 0 0) (last ++ rest))) sizes
+    pub advance-some : r ≡ true → (rest after : List ℕ) → after ≡ gather (fill_trees (take (get_or sizes 0 0) (last ++ rest))) sizes
         → (c : Component) (T : System) → Holds (c ∷ T) sizes trees → Advanced (successor c) (λ d. fills d (map points T)) true trees after
     advance-some f rest after q c T h =
         let e : w.first ≡ c = head-eq_of_cons-eq (held-unique w.holds h) in
