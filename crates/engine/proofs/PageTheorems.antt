@@ -59,9 +59,9 @@ module _ (wanted : ℕ) (b : List ℕ) {before after : List ℕ} {k l : ℕ} (p 
 
   -- Bytes and counts are those of single successor calls made in turn, over any buffers of which as many as are wanted have 1,000 bytes: the codes of the page are
   -- the first that these write.
-  module _ {n : ℕ} {buffers : List (List ℕ)} {calls : List Call} (made : Calls n (wrote b) buffers calls) (room : wanted ≤ roomy buffers) where
+  module _ (n : ℕ) {buffers : List (List ℕ)} {calls : List Call} (made : Calls n (wrote b) buffers calls) (room : wanted ≤ roomy buffers) where
     in-turn : map written (successors wanted page-written.0) ≡ take wanted (entries calls)
-    in-turn = turns-first b page-written.1 made wanted room
+    in-turn = turns-first b page-written.1 n made wanted room
 
     joined-turns : page_bytes (successors wanted page-written.0) ≡ joined (take wanted (entries calls))
     joined-turns = sym (gather-map (λ b. b) written (successors wanted page-written.0)) ∙ ap joined in-turn
@@ -77,7 +77,7 @@ module _ (wanted : ℕ) (b : List ℕ) {before after : List ℕ} {k l : ℕ} (p 
 
     -- fewer than wanted only where a call said "last"
     pub page-ends : k < wanted → ended calls ≡ true
-    page-ends h = let w = page-written in turns-last b w.1 made wanted room (omega (arith, w.2))
+    page-ends h = let w = page-written in turns-last b w.1 n made wanted room (omega (arith, w.2))
 
   -- never more than wanted
   pub page-few : k ≤ wanted
