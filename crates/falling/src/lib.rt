@@ -12,8 +12,7 @@ ghost use Rattle.memory.specs.Memory.{Holds};
 ghost use Rattle.bumping.specs.HeldBumps.{HeldAhead, Advanced, HeldCanonical, Bumped};
 ghost use Rattle.falling.specs.HeldFalls.{HeldComponent};
 
-use lists::copy;
-use lists::equal;
+use lists::{copy, equal};
 use lower_sizes::last_right;
 use succession::predecessor;
 
