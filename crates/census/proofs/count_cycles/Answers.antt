@@ -45,7 +45,8 @@ overflow_add-counts c =
 
 pub bounds-counts-l-then-marks-x-ne0 : goal.bounds-counts-l-then-marks-x-ne0
 bounds-counts-l-then-marks-x-ne0 c =
-    (place c.loop-x.invariant.0 c.loop-x.invariant.1 c.loop-x-test.true c.if-marks-x-ne0.true c.clear_cycle-l.ensures.long).0
+    let l = c.loop-x.invariant in
+    (place l.0 l.1 c.loop-x-test.true c.if-marks-x-ne0.true c.clear_cycle-l.ensures.long).0
 
 pub loop-x-preserved : goal.loop-x-preserved
 loop-x-preserved c =
