@@ -13,7 +13,7 @@ use patterns::{Census, Refusal, Reply, Row};
 use tables::check_table;
 
 // What is written of the rows: the first `filled`. The reply is their number, or why there are none.
-#[derive(Drop)]
+#[derive(Clone, Copy)]
 struct Choice {
     rows: Rows,
     filled: usize,
@@ -21,7 +21,7 @@ struct Choice {
 }
 
 // What a census entry does: the first `filled` of the rows are written, and `reply` is answered.
-#[derive(Drop)]
+#[derive(Clone, Copy)]
 struct Decision {
     rows: Rows,
     filled: usize,
