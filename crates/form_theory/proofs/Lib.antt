@@ -7,6 +7,7 @@ pub mod NumberForms
 pub mod Widths
 pub mod ReadFrom
 pub mod Readback
+pub mod WrittenShort
 pub mod WrittenBack
 pub mod Stretches
 pub mod ComponentStands

@@ -6,17 +6,18 @@ use mathlib.Core.List.{List, [], ◌∷◌}
 use Prim.Native.Nat.{ℕ, ◌≤◌, ◌<◌}
 use native.Mathlib.Omega.{arith}
 use lib.ListN.{length}
-use Rattle.lists.specs.Select.{each, gather}
+use Rattle.lists.specs.Select.{gather}
 use Rattle.patterns.specs.Tree.{Tree, point, merge, size, below, code}
-use Rattle.patterns.specs.Component.{Component, points, flat, nonempty}
+use Rattle.patterns.specs.Component.{Component, points, flat}
 use Rattle.patterns.specs.System.{System, weight, canonical}
 use Rattle.patterns.specs.Written.{component_numbers, numbers, bytes, written}
 use Rattle.patterns.specs.Reading.{Result, done, fault, cut, read_system, accepted}
 use Rattle.form_theory.proofs.Results.{Good, good-weaken, good-then, good-done}
 use Rattle.form_theory.proofs.Bounds.{all_below, below-cons, below-append}
-use Rattle.form_theory.proofs.Numbers.{cut-bytes, cut-good, bytes_below, bytes-length}
+use Rattle.form_theory.proofs.Numbers.{cut-bytes, cut-good, bytes_below}
 use Rattle.component_theory.proofs.Generation.{length-points}
-use Rattle.form_theory.proofs.Readback.{components-points, canonical-nonempty, length-components, read-system, system-good}
+use Rattle.form_theory.proofs.WrittenShort.{written-short}
+use Rattle.form_theory.proofs.Readback.{components-points, canonical-nonempty, read-system, system-good}
 use Rattle.patterns.proofs.Trees.{size-positive}
 
 -- the numbers of a tree, component or system are below any bound on its points
@@ -43,11 +44,6 @@ pub numbers-below : (k : ℕ) (S : System) → canonical S ≡ true → weight S
 numbers-below k S c h =
     below-cons k (weight S) (length S ∷ gather component_numbers S) h
     (below-cons k (length S) (gather component_numbers S) (omega (arith, components-points S (canonical-nonempty S c))) (components-below k S h))
-
--- the written code of a system whose components have trees has at most 804 bytes
-pub written-short : (S : System) → each nonempty S ≡ true → weight S ≤ 200 → length (written S) ≤ 804
-unfolding written
-written-short S c h = omega (arith, bytes-length (numbers S), length-components S, components-points S c)
 
 module _ (S : System) (c : canonical S ≡ true) (h : weight S ≤ 200) where
   numbers-short : all_below 16384 (numbers S) ≡ true
