@@ -6,10 +6,10 @@ pub loop-i-init : goal.loop-i-init
 loop-i-init c = gathered-start c.args.s.now
 
 pub lcm-multiple-requires : goal.lcm-multiple-requires
-lcm-multiple-requires c = gathered-asked c.loop-i.invariant c.requires c.loop-i-test.true
+lcm-multiple-requires c = gathered-asked c.loop-i.invariant c.requires (omega arith)
 
 pub loop-i-preserved : goal.loop-i-preserved
-loop-i-preserved c = gathered_next c.loop-i.invariant c.loop-i-test.true c.lcm-multiple.ensures
+loop-i-preserved c = gathered_next c.loop-i.invariant (omega arith) c.lcm-multiple.ensures
 
 pub returns : goal.returns
 returns c = gathered-end c.loop-i.invariant (omega arith)
