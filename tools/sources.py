@@ -8,7 +8,7 @@ _MARKS = r"^( *)(?:(?:abbrev|unfoldable) )*"
 _DECLARED = re.compile(_MARKS + r"(pub )?(?!use |mod |data |record |mutual|module )(\S+)(?: \{[^}]*\})* : ?")
 _TYPE = re.compile(_MARKS + r"(?:pub )?(record|data|module) (?!\{)(\S+)")
 _USE = re.compile(r"^\s*(?:unfoldable )?(pub )?(?:ghost )?use (\S+?)(?:\.\{(.*)\}|\s+as (\S+?))?;?\s*$")
-_MODULE = re.compile(r"Rattle·(\w+?)(?:·(?:proofs|specs))?\.(.*)$")
+_MODULE = re.compile(r"Rattle\.(\w+)\.(.*)$")
 
 
 def crates():
@@ -26,7 +26,7 @@ def files(folder, *endings):
     """The paths from the top of the repository of the files under a folder with one of these endings, sorted."""
     found = []
     for place, folders, names in os.walk(os.path.join(TOP, folder)):
-        folders[:] = [f for f in folders if f not in ("target", ".git")]
+        folders[:] = [f for f in folders if f not in ("target", "out", ".git")]
         found += [os.path.relpath(os.path.join(place, name), TOP) for name in names if name.endswith(endings)]
     return sorted(found)
 
@@ -48,7 +48,7 @@ class Import:
         module = _MODULE.match(match.group(2))
         self.passed_on = bool(match.group(1))
         self.text = match.group(2)
-        self.module = module and (module.group(1), module.group(2))
+        self.module = (module.group(1), module.group(2)) if module and module.group(1) in crates() else None
         self.alias = match.group(4)
         self.whole = match.group(3) is None and self.alias is None
         # pairs: the name in the module, the name here
