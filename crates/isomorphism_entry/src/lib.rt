@@ -41,11 +41,11 @@ fn put_isomorphism(f: &[u8], g: &[u8], out: &mut [u8]) -> Isomorphism
     let n = f.len();
     let a = coded(f);
     let b = coded(g);
+    let labels = a.labels;
+    let others = b.labels;
     if !same_system(a, b, n) {
         return Isomorphism::Lacking;
     }
-    let labels = a.labels;
-    let others = b.labels;
     put_sent(&labels[..n], &others[..n], out)
 }
 
