@@ -12,7 +12,7 @@ use Rattle.memory.specs.Memory.{Holds, HeldSystem}
 use Rattle.memory.proofs.Parts.{part-fits, held-count, held-points, held_fits, held-part, held_next}
 use Rattle.form_theory.proofs.Numbers.{bytes-length}
 use Rattle.form_theory.proofs.Stretches.{stretch-end, start_first, start-next, start-last, start-within}
-use Rattle.form_theory.proofs.WrittenBack.{written-short}
+use Rattle.form_theory.proofs.WrittenShort.{written-short}
 use Rattle.writing.specs.Writable.{HeldComponent}
 use Rattle.writing.specs.Passed.{Passed}
 

@@ -25,7 +25,7 @@ use Rattle.form_theory.proofs.Numbers.{bytes-append}
 use Rattle.component_theory.proofs.Generation.{length-points}
 use Rattle.form_theory.proofs.Readback.{components-points}
 use Rattle.form_theory.proofs.Stretches.{bytes_of_component, bytes-gather}
-use Rattle.form_theory.proofs.WrittenBack.{written-short}
+use Rattle.form_theory.proofs.WrittenShort.{written-short}
 use Rattle.form_theory.proofs.Widths.{widths-next, widths-within}
 use Rattle.writing.specs.Writable.{ComponentRoom, ComponentsRoom, SystemRoom}
 
