@@ -201,8 +201,18 @@ fn report_runs(to: &impl Print, found: Runs) -> io::Result<()> {
     report(to, b"200 points, equal codes", found.codes, total)?;
     report(to, b"200 points, isomorphisms", found.isomorphisms, total)?;
     report(to, b"200 points, maps of codes", found.maps, total)?;
-    report(to, b"200 points, successors accepted", found.successors, total)?;
-    report(to, b"200 points, 1,000 steps and back", found.returns, total)
+    report(
+        to,
+        b"200 points, successors accepted",
+        found.successors,
+        total,
+    )?;
+    report(
+        to,
+        b"200 points, 1,000 steps and back",
+        found.returns,
+        total,
+    )
 }
 
 // The pairs of the file of this name.
