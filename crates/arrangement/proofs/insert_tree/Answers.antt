@@ -27,12 +27,12 @@ overflow_add-p c =
 pub exchange-requires : goal.exchange-requires
 exchange-requires c =
     let h = c.requires in
-    (within h c.points_before.ensures.0, h.after, h.fits)
+    (omega (arith, within h c.points_before.ensures.0), h.after, h.fits)
 
 pub exchange-requires-2 : goal.exchange-requires-2
 exchange-requires-2 c =
     let h = c.requires in
-    (within h c.points_before.ensures.0, h.after, omega (arith, h.fits, h.same))
+    (omega (arith, within h c.points_before.ensures.0), h.after, omega (arith, h.fits, h.same))
 
 pub returns : goal.returns
 returns c =
