@@ -1,0 +1,12 @@
+use mathlib.Core.Path.{sym, ap, ◌∙◌, subst}
+use Rattle.patterns.specs.SignedReplies.{signed_of}
+use Rattle.c_interface.proofs.Fitting.{Fits, read_back}
+use Rattle.c_interface.proofs.Measures.{height-fits}
+use Rattle.c_interface.proofs.lethmuok_height.Goals as goal
+
+pub reply_number-requires : goal.reply_number-requires
+reply_number-requires c = subst Fits (sym c.height.ensures) (height-fits c.args.table.now)
+
+pub returns : goal.returns
+returns c =
+    read_back (c.reply_number.ensures ∙ ap signed_of c.height.ensures) (height-fits c.args.table.now)
