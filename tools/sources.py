@@ -18,7 +18,7 @@ def crates():
         for line in lines:
             if line.strip() and not line.startswith("#"):
                 name, _, below = line.partition(":")
-                found[name.strip()] = below.split()
+                found[name.split()[0]] = below.split()
     return found
 
 
