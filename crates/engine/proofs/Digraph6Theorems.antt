@@ -18,7 +18,7 @@ use Rattle.patterns.specs.Table.{system_of_table}
 use Rattle.patterns.specs.MapOf.{map_of}
 use Rattle.patterns.specs.Isomorphism.{Isomorphism}
 use Rattle.patterns.specs.Replies.{Answer, length_is, refused, number_of}
-use Rattle.patterns.specs.Entry.{gives, answered, Replied, accept_of, code_of_map, map_of_code}
+use Rattle.patterns.specs.Entry.{gives, Replied, accept_of, code_of_map, map_of_code}
 use Rattle.patterns.specs.Digraph6.{size_field, body_length, digraph6, read_line, digraph6_of_code, code_of_digraph6}
 use Rattle.patterns.proofs.Outcomes.{outcome-gives, by_result, code_gives, result-fills}
 use Rattle.form_theory.proofs.Bounds.{all_below}

@@ -112,7 +112,7 @@ pub isomorphism-promise : (κs : Lfts 3) (a : Dens κs isomorphism-kinds.ps) (r 
     → IsomorphismReplied a.0.now a.1.0.now a.1.1.0.now (isomorphism_answer r) s.1.1.0.now
 isomorphism-promise κs a r s p = p
 
--- `census`, which is proved by hand: its `ensures` is this record, and it asks nothing
+-- `census`: its `ensures` is this record, and it asks nothing
 module _ {M : Type 1} {𝓤 : Ura M} (𝓛 : Logic 𝓤) (mem : Memory → SProp 𝓤) (run : Routine → Fun 𝓤) (κs : Lfts 2) (a : _) where
   pub census-promise : (r : _) (s : _) → (census.clauses 𝓛 mem run κs a).ensures tt r s
       ≡ fact 𝓤 (CensusReplied a.0.now (map row_of a.1.0.now) (census_answer r) (map row_of s.1.0.now))
