@@ -1,5 +1,5 @@
 -- A buffer is filled line by line: what stands in it, then the text that is to come, is always the whole text.
-use mathlib.Core.Path.{◌≡◌, refl, ap, ◌∙◌}
+use mathlib.Core.Path.{◌≡◌, refl, ap, sym, ◌∙◌}
 use mathlib.Core.List.{List, [], ◌∷◌, ◌++◌}
 use Prim.Native.Nat.{ℕ, ◌+◌, ◌-◌, ◌≤◌, ◌<◌}
 use native.Mathlib.Omega.{arith}
@@ -98,3 +98,11 @@ empty-piece t r p e =
     by-test (ltb 0 (length t))
     (λ z. absurd (omega (arith, p.more (ltb-true 0 (length t) z))))
     (λ z. no_text t (omega (arith, ltb-false 0 (length t) z)))
+
+pub none_left : (t : List ℕ) {before after : List ℕ} (r : Step) → Put t 0 before r after → r.len ≡ 0 → remaining r.next ≡ []
+none_left t {before} {after} r p e = ap (λ n. take n after ++ remaining r.next) (sym e) ∙ p.text ∙ empty-piece t r p e
+
+-- after a piece that is not empty less text is left
+pub less-left : {t before after : List ℕ} (r : Step) → Put t 0 before r after → 0 < r.len → length (remaining r.next) < length t
+less-left {t} {before} {after} r p h =
+    omega (arith, ap length p.text, length-append (take r.len after) (remaining r.next), length-take-le r.len after p.within)

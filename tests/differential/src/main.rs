@@ -1,6 +1,6 @@
 //! The engine, through its static library, against the reference implementation. The inputs are the same in every run.
 //!
-//! It is given the directory of the cases of `tools/plain_model.py`, prints the number of calls of each entry, and fails if an answer differs.
+//! It is given the directories of the cases of `tools/plain_model.py`, that of the digraph6 lines last, prints the number of calls of each entry, and fails if an answer differs.
 
 mod compare;
 mod digraph6;
@@ -540,8 +540,9 @@ fn report(comparison: &Comparison, laws: &Laws) -> bool {
 
 fn main() -> ExitCode {
     let data = std::env::args().nth(1).expect("the directory of the cases");
+    let lines = std::env::args().nth(2).expect("the directory of the cases of digraph6 lines");
     let (comparison, random) = (&mut Comparison::new(), &mut Random::new(1));
-    model::run(comparison, Path::new(&data));
+    model::run(comparison, Path::new(&data), Path::new(&lines));
     firsts(comparison);
     every_code(comparison);
     every_short(comparison);

@@ -1,4 +1,4 @@
-//! The cases in `crates/checks/data`, made by `tools/plain_model.py`, a third implementation: both sides have to answer them. `tools/README.md` has the format.
+//! The cases in `crates/checks/data` and `crates/line_checks/data`, made by `tools/plain_model.py`, a third implementation: both sides have to answer them. `tools/README.md` has the format.
 
 use crate::compare::{Comparison, FILLING};
 use sides::maps::is_isomorphism;
@@ -219,9 +219,12 @@ fn listing(comparison: &mut Comparison, n: usize, text: &str) {
     }
 }
 
-/// All files of the data.
-pub fn run(comparison: &mut Comparison, data: &Path) {
-    let read = |name: &str| std::fs::read_to_string(data.join(name)).expect(name);
+/// All files of the data, those of digraph6 lines in a directory of their own.
+pub fn run(comparison: &mut Comparison, data: &Path, lines: &Path) {
+    let read = |name: &str| {
+        let folder = if name.starts_with("digraph6_") { lines } else { data };
+        std::fs::read_to_string(folder.join(name)).expect(name)
+    };
     for name in FILES {
         read(name).lines().for_each(|line| case(comparison, line));
     }
