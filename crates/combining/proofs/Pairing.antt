@@ -1,5 +1,5 @@
 -- Writing the table of pairs, point after point of the first table.
-use mathlib.Core.Path.{◌≡◌, ap, sym, ◌∙◌}
+use mathlib.Core.Path.{◌≡◌, refl, ap, sym, ◌∙◌}
 use mathlib.Core.List.{List, [], ◌∷◌, ◌++◌, map, append-nil}
 use Prim.Native.Nat.{ℕ, ◌+◌, ◌*◌, ◌≤◌, ◌<◌}
 use native.Mathlib.Numerals.{add-one}
@@ -10,9 +10,18 @@ use lib.Seq.{take-suc, take_all, length-take-le}
 use Rattle.lists.proofs.Members.{gather_append}
 use Rattle.lists.proofs.EqualPieces.{piece-within}
 use Rattle.patterns.specs.Arithmetic.{product_table}
+use Rattle.map_theory.proofs.Isomorphisms.{table_below}
+use Rattle.combining.specs.declared.Operation.TheVariants.{Product}
+use Rattle.combining.specs.Combining.{CombineAsked}
 use Rattle.written.specs.Putting.{placed}
 use Rattle.written.proofs.Placing.{placed-length, placed-none, placed-more, placed-all}
 use Rattle.arithmetic_theory.proofs.Products.{product-points}
+
+-- the pairs of an image are points of the result
+pub image-pairs : {f g out : List ℕ} → CombineAsked Product f g out → {i : ℕ} → i < length f → get_or f i 0 * length g + length g ≤ 200
+image-pairs {f} {g} a {i} h =
+    let below = table_below (length f) f refl a.first i h in
+    omega (arith, piece-within (length g) below, a.room, a.small)
 
 -- the pairs of the first i points stand in the output
 pub record Pairing (f g out₀ out : List ℕ) (i : ℕ) : Type 0 where

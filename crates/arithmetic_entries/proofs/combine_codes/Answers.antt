@@ -14,24 +14,24 @@ use Rattle.arithmetic_entries.proofs.combine_codes.Goals as goal
 -- the code was accepted, and its map stands in the first places
 pub slice_bounds-f-end : goal.slice_bounds-f-end
 slice_bounds-f-end c =
-    let decoded = map-decoded c.args.first.now c.map_of_code.ensures c.in-Length.is in
+    let decoded = map-decoded _ c.map_of_code.ensures c.in-Length.is in
     let l : length c.map_of_code.new.out ≡ 200 = search rules in omega (arith, decoded.small)
 
 pub slice_bounds-combine_with-end : goal.slice_bounds-combine_with-end
 slice_bounds-combine_with-end c =
-    let decoded = map-decoded c.args.first.now c.map_of_code.ensures c.in-Length.is in
+    let decoded = map-decoded _ c.map_of_code.ensures c.in-Length.is in
     let l : length c.map_of_code.new.out ≡ 200 = search rules in sym (length-take-le _ _ (omega (arith, decoded.small)))
 
 pub combine_with-requires : goal.combine_with-requires
 combine_with-requires c =
-    let decoded = map-decoded c.args.first.now c.map_of_code.ensures c.in-Length.is in
+    let decoded = map-decoded _ c.map_of_code.ensures c.in-Length.is in
     decoded-checked decoded
 
 pub returns-in-Refused : goal.returns-in-Refused
 returns-in-Refused c =
-    decoded-refused c.args.first.now c.map_of_code.ensures c.points_room-f.ensures c.in-Refused.is _ c.args.out.now
+    decoded-refused _ c.map_of_code.ensures c.points_room-f.ensures c.in-Refused.is _ c.args.out.now
 
 pub returns-in-Length : goal.returns-in-Length
 returns-in-Length c =
-    let decoded = map-decoded c.args.first.now c.map_of_code.ensures c.in-Length.is in
+    let decoded = map-decoded _ c.map_of_code.ensures c.in-Length.is in
     decoded-replied decoded (λ f. let a = c.args in outcome (accepted a.second.now) (λ T. code_of_result (table_of a.operation f (map_of T)))) c.combine_with.ensures

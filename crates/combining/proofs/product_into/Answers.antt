@@ -1,18 +1,15 @@
 use mathlib.Core.Path.{refl}
-use Prim.Native.Nat.{◌+◌, ◌*◌, ◌≤◌}
 use native.Mathlib.Omega.{arith}
-use lib.ListN.{length, get_or}
-use Rattle.lists.proofs.EqualPieces.{piece-within}
+use lib.ListN.{length}
 use Rattle.map_theory.proofs.Isomorphisms.{table_below}
 use Rattle.combining.proofs.ShiftedNumbers.{shift-asked}
-use Rattle.combining.proofs.Pairing.{pairing-start, pairing-length, pairs-fit, pairing-next, pairing-end}
+use Rattle.combining.proofs.Pairing.{image-pairs, pairing-start, pairing-length, pairs-fit, pairing-next, pairing-end}
 use Rattle.combining.proofs.product_into.Goals as goal
 
 pub loop-i-preserved : goal.loop-i-preserved
 loop-i-preserved c =
     pairing-next c.loop-i.invariant c.requires.room (omega arith) c.shift_into.ensures
 
--- the pairs of an image are points of the result
 pub loop-i-init : goal.loop-i-init
 loop-i-init c = let a = c.args in pairing-start a.f.now a.g.now a.out.now
 
@@ -21,11 +18,7 @@ overflow_cast-x c =
     omega (arith, table_below (length c.args.f.now) c.args.f.now refl c.requires.first c.loop-i.i (omega arith))
 
 pub overflow_mul-x : goal.overflow_mul-x
-overflow_mul-x c =
-    let image-pairs : let a = c.args in
-    get_or a.f.now c.loop-i.i 0 * length a.g.now + length a.g.now ≤ 200 = let below = table_below (length c.args.f.now) c.args.f.now refl c.requires.first c.loop-i.i (omega arith) in
-    omega (arith, piece-within (length c.args.g.now) below, c.requires.room, c.requires.small) in
-    omega (arith, image-pairs)
+overflow_mul-x c = omega (arith, image-pairs c.requires c.loop-i-test.true)
 
 pub overflow_mul-i : goal.overflow_mul-i
 overflow_mul-i c =
@@ -33,10 +26,8 @@ overflow_mul-i c =
 
 pub shift_into-requires : goal.shift_into-requires
 shift_into-requires c =
-    let image-pairs : let a = c.args in
-    get_or a.f.now c.loop-i.i 0 * length a.g.now + length a.g.now ≤ 200 = let below = table_below (length c.args.f.now) c.args.f.now refl c.requires.first c.loop-i.i (omega arith) in
-    omega (arith, piece-within (length c.args.g.now) below, c.requires.room, c.requires.small) in
-    shift-asked _ _ c.args.g.now c.loop-i.out c.requires.second (pairs-fit c.loop-i.invariant c.requires.room (omega arith)) image-pairs
+    shift-asked _ _ c.args.g.now c.loop-i.out c.requires.second (pairs-fit c.loop-i.invariant c.requires.room (omega arith))
+    (image-pairs c.requires c.loop-i-test.true)
 
 pub shape_of-out : goal.shape_of-out
 shape_of-out c = pairing-length c.loop-i.invariant c.requires.room
