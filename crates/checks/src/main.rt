@@ -13,7 +13,11 @@ fn run_file(rt: &(impl Files + Print), name: &[u8], group: &[u8]) -> io::Result<
     let len = numbers::within(file.len, &bytes);
     let text = &bytes[0..len];
     let entries = entry_checks::cases::run_cases(text);
-    scores::report(rt, group, scores::sum(entries, census_checks::run_cases(text)))
+    scores::report(
+        rt,
+        group,
+        scores::sum(entries, census_checks::run_cases(text)),
+    )
 }
 
 fn run_refusals(rt: &(impl Files + Print)) -> io::Result<()> {
