@@ -1,4 +1,5 @@
 -- What the reply to a written code says of it, and of the memory that it was read into.
+use Rattle.std.specs.Prelude.{Result as Reply, Ok, Err}
 use mathlib.Core.Path.{◌≡◌, refl, ap, sym, ◌∙◌}
 use mathlib.Core.Bool.{true}
 use mathlib.Core.List.{List}
@@ -12,7 +13,6 @@ use Rattle.patterns.specs.Reading.{Result, done, fault, accepted}
 use Rattle.patterns.specs.Replies.{Answer, length_is, refused, number_of}
 use Rattle.patterns.specs.Entry.{Outcome, outcome, Replied, accept_of}
 use Rattle.reading.specs.declared.Accepted.{Accepted}
-use Rattle.reading.specs.declared.Accepted.TheVariants.{System as Held, Refused as NotAccepted}
 use Rattle.memory.specs.Memory.{Holds, HeldSystem}
 use Rattle.reading.specs.Shape.{acceptance, AcceptedInto}
 use Rattle.form_theory.proofs.Readback.{canonical-nonempty}
@@ -30,21 +30,22 @@ pub record Taken (b sizes trees : List ℕ) (m n : ℕ) : Type 0 where
   pub points_are : weight system ≡ n
   pub holds : Holds system (take m sizes) (take n trees)
 
-module _ (b : List ℕ) {r : Accepted} {sizes trees : List ℕ} (a : AcceptedInto (accepted b) r sizes trees) where
+module _ (b : List ℕ) {r : Reply Accepted Refusal} {sizes trees : List ℕ} (a : AcceptedInto (accepted b) r sizes trees) where
   -- the bytes were refused
-  pub code-refused : (c : Refusal) → r ≡ NotAccepted c → accepted b ≡ fault c
+  pub code-refused : (c : Refusal) → r ≡ Err c → accepted b ≡ fault c
   code-refused c e = told-refused (accepted b) c (sym e ∙ a.reply)
 
   -- or accepted
-  pub code-taken : (m n : ℕ) → r ≡ Held m n → Taken b sizes trees m n
-  code-taken m n e = of (accepted b) refl (sym e ∙ a.reply)
+  pub code-taken : (k : Accepted) → r ≡ Ok k → Taken b sizes trees k.components k.points
+  code-taken k e = of (accepted b) refl (sym e ∙ a.reply)
     where
-      of : (o : Result System) → accepted b ≡ o → Held m n ≡ acceptance o → Taken b sizes trees m n
+      of : (o : Result System) → accepted b ≡ o → Ok k ≡ acceptance o → Taken b sizes trees k.components k.points
       of (done S) p q =
-          let u : m ≡ length S = cc in
-          let v : n ≡ weight S = cc in
-          let k = accepted-canonical b S p in
-          record { system = S; is = p; canonical_is = k.0; small = k.1; count = sym u; points_are = sym v; holds = rw (u, v) (a.held S p) }
+          let same : k ≡ record { components = length S; points = weight S } = cc in
+          let u : k.components ≡ length S = ap (λ (a : Accepted). a.components) same in
+          let v : k.points ≡ weight S = ap (λ (a : Accepted). a.points) same in
+          let g = accepted-canonical b S p in
+          record { system = S; is = p; canonical_is = g.0; small = g.1; count = sym u; points_are = sym v; holds = rw (u, v) (a.held S p) }
       of (fault c) p q = clash cc
 
 -- the reply of acceptance

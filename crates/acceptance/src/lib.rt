@@ -10,16 +10,13 @@ use reading::{Accepted, read_code};
 use systems::canonical;
 
 // The code is read, and then the system must be canonical [document 01, "Refusing", cause 6]; it goes into `sizes` and `trees`.
-pub fn accept_into(code: &[u8], sizes: &mut [u8], trees: &mut [u8]) -> Accepted
+pub fn accept_into(code: &[u8], sizes: &mut [u8], trees: &mut [u8]) -> Result<Accepted, Refusal>
     requires { (length sizes.old ≡ 200) × (length trees.old ≡ 200) }
     ensures { AcceptedInto (accepted code.now) result sizes.new trees.new }
 {
-    let shape = read_code(code, sizes, trees);
-    let Accepted::System(m, n) = shape else {
-        return shape;
-    };
-    if !canonical(&sizes[..m], &trees[..n]) {
-        return Accepted::Refused(Refusal::NotCanonical);
+    let read = read_code(code, sizes, trees)?;
+    if !canonical(&sizes[..read.components], &trees[..read.points]) {
+        return Err(Refusal::NotCanonical);
     }
-    Accepted::System(m, n)
+    Ok(read)
 }

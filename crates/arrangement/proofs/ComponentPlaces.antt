@@ -6,7 +6,11 @@ use Prim.Native.Nat.{ℕ, ◌+◌, ◌-◌, ◌≤◌, ◌<◌, Ordering}
 use native.Mathlib.Omega.{arith}
 use lib.Dec.{is_le}
 use lib.ListN.{length, get_or, take, drop, length-map}
+use Rattle.std.specs.Ordering.{is_le as cmp_is_le}
+use Rattle.std.specs.declared.cmp.Ordering as cmp
+use Rattle.std.specs.declared.cmp.Ordering.TheVariants.{Less, Equal, Greater}
 use Rattle.lists.specs.Order.{at_most}
+use Rattle.lists.specs.Blocks.{ordering_of}
 use Rattle.lists.specs.Select.{gather}
 use Rattle.lists.proofs.Tests.{each_member}
 use Rattle.lists.proofs.Members.{in_head, in_list, in_append_right}
@@ -18,6 +22,12 @@ use Rattle.paths.specs.HeldPaths.{HeldPair}
 use Rattle.memory.proofs.Parts.{length-trees}
 use Rattle.memory.proofs.Standing.{part_length}
 use Rattle.memory.proofs.SystemWalks.{AlongSystem, NextComponent, system_start, system-next, system-end, system-step, component-part, component-size, component-ends, whole}
+
+-- whether the library's ordering says at most
+pub ordering-le : (o : cmp.Ordering) → is_le (ordering_of o) ≡ cmp_is_le o
+ordering-le Less = refl
+ordering-le Equal = refl
+ordering-le Greater = refl
 
 pub before-stop : (c d : Component) (S : System) → at_most compare_generated c d ≡ true → components_before c (d ∷ S) ≡ []
 unfolding components_before

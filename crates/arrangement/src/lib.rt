@@ -10,7 +10,7 @@ ghost use Rattle.memory.specs.Memory.{Held};
 ghost use Rattle.arrangement.specs.Arrangement.{points_before, SiblingsStand, Inserts};
 ghost use Rattle.arrangement.specs.Arrangement.{PlaceAsked, PlaceFound, InsertAsked, ComponentInserted};
 
-use lists::{Order, exchange};
+use lists::exchange;
 use paths::compare_generated;
 use trees::at_most;
 
@@ -21,6 +21,7 @@ fn points_before(tree: &[u8], siblings: &[u8]) -> usize
         × ((t : Tree) (c : Component) → tree.now ≡ code t → siblings.now ≡ flat c → result ≡ points_before t c) }
 {
     let mut p = 0;
+    // The place moves by the size of a tree: no index is counted.
     while p < siblings.len() {
         let q = p + siblings[p] as usize;
         if at_most(tree, &siblings[p..q]) {
@@ -42,7 +43,7 @@ pub fn insert_tree(trees: &mut [u8], labels: &mut [u8], start: usize, end: usize
 }
 
 // A place among components: how many stand before it, and how many points they have.
-#[derive(Clone, Copy)]
+#[derive(Clone, Copy, Debug, PartialEq, Eq, Hash)]
 pub struct Place {
     pub index: usize,
     pub at: usize,
@@ -54,18 +55,18 @@ fn component_place(c: &[u8], sizes: &[u8], trees: &[u8]) -> Place
     ensures { (x : Component) (S : System) → c.now ≡ flat x → sizes.now ≡ map points_of S → trees.now ≡ gather flat S
         → PlaceFound x S result }
 {
-    let mut index = 0;
     let mut at = 0;
-    while index < sizes.len() {
-        let next = at + sizes[index] as usize;
-        match compare_generated(c, &trees[at..next]) {
-            Order::Less => return Place { index, at },
-            Order::Equal => return Place { index, at },
-            Order::Greater => at = next,
+    for (index, size) in sizes.iter().enumerate() {
+        let next = at + *size as usize;
+        if compare_generated(c, &trees[at..next]).is_le() {
+            return Place { index, at };
         }
-        index += 1;
+        at = next;
     }
-    Place { index, at }
+    Place {
+        index: sizes.len(),
+        at,
+    }
 }
 
 // The component from `end` to `next` goes to its place among the `m` components before it, its size and its labels with it.

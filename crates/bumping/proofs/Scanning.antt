@@ -3,7 +3,7 @@ use mathlib.Core.Path.{◌≡◌, refl, ap, ap₂, ◌∙◌}
 use mathlib.Core.Bool.{Bool, true, false}
 use mathlib.Core.List.{List, [], ◌∷◌, map}
 use mathlib.Core.Option.{none}
-use Prim.Native.Nat.{ℕ, ◌-◌, ◌≤◌, ◌<◌}
+use Prim.Native.Nat.{ℕ, ◌-◌, ◌<◌}
 use native.Mathlib.Omega.{arith}
 use lib.ListN.{length, take, drop, get_or, drop_of_length-le}
 use Rattle.patterns.specs.Component.{Component, points}
@@ -36,13 +36,6 @@ module _ {sizes before up₀ side₀ out₀ : List ℕ} (w : HeldCanonical sizes
   -- the part of it that is not about successors
   pub bump-reached : (S : System) → Holds S sizes before → Reached S sizes trees i at
   bump-reached S h = (f S h).reached
-
-  -- no component has a successor
-  pub bump-end : i ≤ 0 → (S : System) → Holds S sizes before → Bumped (bump S) false sizes trees
-  bump-end k S h =
-      let z : i ≡ 0 = omega arith in
-      let e : bump S ≡ none = rw z at (f S h).nothing in
-      rw e refl
 
   -- Component i - 1, the next to the left, which begins here:
   abbrev begin : ℕ

@@ -13,7 +13,7 @@ use Rattle.memory.specs.Memory.{Holds}
 use Rattle.bumping.specs.HeldBumps.{HeldAhead, HeldCanonical}
 use Rattle.system_theory.proofs.Canonical.{canonical-parts}
 use Rattle.memory.proofs.Parts.{held-points, held-unique}
-use Rattle.memory.proofs.FromRight.{from_place, Reached, left-within, left-index, left-size, left-begin, left-held}
+use Rattle.memory.proofs.FromRight.{from_place, Reached, left-within, left-size, left-begin, left-held}
 
 valid-at : (S : System) (i : ℕ) → each valid_component S ≡ true → i < length S → valid_component (get_or S i []) ≡ true
 valid-at [] i v h = absurd (omega arith)
@@ -33,9 +33,6 @@ module _ {sizes before up₀ side₀ out₀ : List ℕ} (w : HeldCanonical sizes
   begin = at - get_or sizes (i - 1) 0
 
   module _ (k : 0 < i) where
-    pub turn-index : i - 1 < length sizes
-    turn-index = left-index here k
-
     pub turn-size : get_or sizes (i - 1) 0 ≤ at
     turn-size = left-size here k
 

@@ -37,10 +37,8 @@ pub fn bump(sizes: &[u8], trees: &mut [u8], up: &mut [u8], side: &mut [u8], out:
     ensures { (S : System) → Holds S sizes.now trees.old
         → Bumped (bump_of S) result sizes.now trees.new }
 {
-    let mut i = sizes.len();
     let mut at = trees.len();
-    while 0 < i {
-        i -= 1;
+    for i in (0..sizes.len()).rev() {
         at -= sizes[i] as usize;
         if advance(&sizes[i..], &mut trees[at..], up, side, out) {
             return true;

@@ -8,13 +8,25 @@ use lib.ListN.{length, get_or}
 use mir.Syntax.{w64}
 use mir.Val.{to_z, of_z}
 use Rattle.patterns.specs.Reading.{Result, done, fault}
-use Rattle.patterns.specs.Replies.{Answer, length_is, PartAnswer}
+use Rattle.patterns.specs.Replies.{Answer, length_is, refused, PartAnswer, part_is, part_refused}
 use Rattle.patterns.specs.Entry.{answer, Part, component_of, part_answered}
 use Rattle.patterns.specs.SignedReplies.{signed_of, component_start, component_end, component_turns}
 use Rattle.form_theory.proofs.Bounds.{below_at}
 use Rattle.form_theory.proofs.ComponentStands.{ComponentAt, stands, stands-within, turns-small}
-use Rattle.signed_replies.specs.PartNumbers.{start_in, end_in, turns_in}
 use Rattle.c_interface.proofs.Fitting.{Fits, read_back, refused-fits}
+
+-- where a part begins, where it ends, and how many of the component's rotations equal it, or the refusal
+abbrev pub start_in : PartAnswer → Answer
+start_in (part_is start end turns) = length_is start
+start_in (part_refused c) = refused c
+
+abbrev pub end_in : PartAnswer → Answer
+end_in (part_is start end turns) = length_is end
+end_in (part_refused c) = refused c
+
+abbrev pub turns_in : PartAnswer → Answer
+turns_in (part_is start end turns) = length_is turns
+turns_in (part_refused c) = refused c
 
 module _ (b : List ℕ) (i : ℕ) (bytes : (j : ℕ) → j < length b → get_or b j 0 < 256) (room : length b * 1 < 2 ^ 63) (a : PartAnswer)
     (replied : a ≡ part_answered (component_of b i)) where

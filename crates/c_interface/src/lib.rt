@@ -14,10 +14,15 @@ ghost use Rattle.patterns.specs.SignedReplies.{signed_of, Reported, PageReported
 
 use component_parts::stretch_of;
 use signed_replies::{
-    GreatestReply, PageReply, end_number, greatest_numbers, isomorphism_number, page_numbers,
-    predecessor_number, quantity_number, reply_number, start_number, successor_number,
-    turns_number,
+    GreatestReply, PageReply, found_number, greatest_numbers, page_numbers, reply_number,
 };
+
+// The numbers of "last", "none" and "first".
+const LAST: i64 = -100;
+
+const LACKING: i64 = -101;
+
+const FIRST: i64 = -102;
 
 // n, or the refusal of a code.
 #[unsafe(no_mangle)]
@@ -40,7 +45,7 @@ pub extern "C" fn lethmuok_first(n: usize, out: &mut [u8]) -> i64
 pub extern "C" fn lethmuok_successor(code: &[u8], out: &mut [u8]) -> i64
     ensures { Reported (successor_of code.now) out.old result out.new }
 {
-    successor_number(engine::successor(code, out))
+    found_number(engine::successor(code, out), LAST)
 }
 
 // Writes the code that stands before `code` in the list.
@@ -48,7 +53,7 @@ pub extern "C" fn lethmuok_successor(code: &[u8], out: &mut [u8]) -> i64
 pub extern "C" fn lethmuok_predecessor(code: &[u8], out: &mut [u8]) -> i64
     ensures { Reported (predecessor_of code.now) out.old result out.new }
 {
-    predecessor_number(engine::predecessor(code, out))
+    found_number(engine::predecessor(code, out), FIRST)
 }
 
 // Writes up to `wanted` codes that follow `code` in the list, one after another.
@@ -96,7 +101,7 @@ pub extern "C" fn lethmuok_product(first: &[u8], second: &[u8], out: &mut [u8]) 
 pub extern "C" fn lethmuok_table_count(code: &[u8]) -> i64
     ensures { result ≡ signed_of (answer (table_count code.now) length_is) }
 {
-    quantity_number(engine::table_count(code))
+    reply_number(engine::table_count(code).map(|tables| tables as usize))
 }
 
 // Writes an isomorphism from the map `f` to the map `g`.
@@ -104,7 +109,7 @@ pub extern "C" fn lethmuok_table_count(code: &[u8]) -> i64
 pub extern "C" fn lethmuok_isomorphism(f: &[u8], g: &[u8], out: &mut [u8]) -> i64
     ensures { IsomorphismReported f.now g.now out.old result out.new }
 {
-    isomorphism_number(engine::isomorphism(f, g, out))
+    found_number(engine::isomorphism(f, g, out), LACKING)
 }
 
 // Writes the census of the map `table`: the cycle lengths that occur, rising, and their numbers of cycles beside them.
@@ -128,7 +133,7 @@ pub extern "C" fn lethmuok_height(table: &[u8]) -> i64
 pub extern "C" fn lethmuok_period(table: &[u8]) -> i64
     ensures { result ≡ signed_of (answer (period_of table.now) length_is) }
 {
-    quantity_number(engine::period(table))
+    reply_number(engine::period(table).map(|steps| steps as usize))
 }
 
 // Writes a code of n points with the greatest period [document 02, paper 9: the system that runs longest].
@@ -160,7 +165,7 @@ pub extern "C" fn lethmuok_code_of_digraph6(line: &[u8], out: &mut [u8]) -> i64
 pub extern "C" fn lethmuok_component_start(code: &[u8], position: usize) -> i64
     ensures { result ≡ signed_of (component_start code.now position) }
 {
-    start_number(stretch_of(code, position))
+    reply_number(stretch_of(code, position).map(|part| part.start))
 }
 
 // Where they end.
@@ -168,7 +173,7 @@ pub extern "C" fn lethmuok_component_start(code: &[u8], position: usize) -> i64
 pub extern "C" fn lethmuok_component_end(code: &[u8], position: usize) -> i64
     ensures { result ≡ signed_of (component_end code.now position) }
 {
-    end_number(stretch_of(code, position))
+    reply_number(stretch_of(code, position).map(|part| part.end))
 }
 
 // How many of the component's rotations equal it [document 02, paper 6: turns].
@@ -176,5 +181,5 @@ pub extern "C" fn lethmuok_component_end(code: &[u8], position: usize) -> i64
 pub extern "C" fn lethmuok_component_turns(code: &[u8], position: usize) -> i64
     ensures { result ≡ signed_of (component_turns code.now position) }
 {
-    turns_number(stretch_of(code, position))
+    reply_number(stretch_of(code, position).map(|part| part.turns))
 }

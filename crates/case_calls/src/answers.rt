@@ -1,80 +1,79 @@
-// What an entry answered: one kind and one number for the replies of all entries.
-use patterns::{Isomorphism, Predecessor, Quantity, Refusal, Reply, Successor};
+// What an entry answered, as the files of cases have it.
+use case_text::faults::Fault;
+use case_text::numbers::Numbers;
+use patterns::{Found, Refusal, Reply};
 
-pub const LENGTH: usize = 0;
+#[derive(Clone, Copy, Debug, PartialEq, Eq, Hash)]
+pub enum Answer {
+    // The length of what was written, or another number that was asked for.
+    Number(usize),
 
-pub const LAST: usize = 1;
+    // No code comes after this one.
+    Last,
 
-pub const NONE: usize = 2;
+    // There is no isomorphism.
+    Lacking,
 
-pub const REFUSED: usize = 3;
+    // The number of the cause.
+    Refused(u8),
 
-pub const FIRST_OF_LIST: usize = 4;
-
-// The kind, and the length, another number that was asked for, or the number of the cause.
-#[derive(Clone, Copy)]
-pub struct Answer {
-    pub kind: usize,
-    pub value: usize,
+    // No code comes before this one.
+    First,
 }
 
-fn of_length(value: usize) -> Answer {
-    Answer {
-        kind: LENGTH,
-        value,
+// By the kind and the number, which is 0 where an answer has none.
+impl TryFrom<(usize, usize)> for Answer {
+    type Error = Fault;
+
+    fn try_from((kind, number): (usize, usize)) -> Result<Answer, Fault> {
+        match (kind, number) {
+            (0, _) => Ok(Answer::Number(number)),
+            (1, 0) => Ok(Answer::Last),
+            (2, 0) => Ok(Answer::Lacking),
+            (3, _) => u8::try_from(number)
+                .map(Answer::Refused)
+                .map_err(|_| Fault::Malformed),
+            (4, 0) => Ok(Answer::First),
+            _ => Err(Fault::Malformed),
+        }
     }
 }
 
-fn of_refusal(cause: Refusal) -> Answer {
-    Answer {
-        kind: REFUSED,
-        value: case_text::numbers::wide(patterns::number(cause)),
+impl From<Refusal> for Answer {
+    fn from(cause: Refusal) -> Answer {
+        Answer::Refused(u8::from(cause))
     }
 }
 
-pub fn of_reply(reply: Reply) -> Answer {
-    match reply {
-        Reply::Length(k) => of_length(k),
-        Reply::Refused(cause) => of_refusal(cause),
+impl From<Reply> for Answer {
+    fn from(reply: Reply) -> Answer {
+        match reply {
+            Ok(number) => Answer::Number(number),
+            Err(cause) => Answer::from(cause),
+        }
     }
 }
 
-pub fn of_quantity(reply: Quantity) -> Answer {
-    match reply {
-        Quantity::Number(k) => of_length(k as usize),
-        Quantity::Refused(cause) => of_refusal(cause),
+// How many tables have a code, or a period.
+impl From<Result<u64, Refusal>> for Answer {
+    fn from(reply: Result<u64, Refusal>) -> Answer {
+        Answer::from(reply.map(|number| number as usize))
     }
 }
 
-pub fn of_successor(reply: Successor) -> Answer {
-    match reply {
-        Successor::Length(k) => of_length(k),
-        Successor::Last => Answer {
-            kind: LAST,
-            value: 0,
-        },
-        Successor::Refused(cause) => of_refusal(cause),
+impl Answer {
+    // What an entry answers that may find nothing, which it says by `nothing`.
+    pub fn found(reply: Found, nothing: Answer) -> Answer {
+        match reply {
+            Ok(Some(number)) => Answer::Number(number),
+            Ok(None) => nothing,
+            Err(cause) => Answer::from(cause),
+        }
     }
-}
 
-pub fn of_predecessor(reply: Predecessor) -> Answer {
-    match reply {
-        Predecessor::Length(k) => of_length(k),
-        Predecessor::First => Answer {
-            kind: FIRST_OF_LIST,
-            value: 0,
-        },
-        Predecessor::Refused(cause) => of_refusal(cause),
-    }
-}
-
-pub fn of_isomorphism(reply: Isomorphism) -> Answer {
-    match reply {
-        Isomorphism::Points(n) => of_length(n),
-        Isomorphism::Lacking => Answer {
-            kind: NONE,
-            value: 0,
-        },
-        Isomorphism::Refused(cause) => of_refusal(cause),
+    pub fn read(numbers: &mut Numbers<'_>) -> Result<Answer, Fault> {
+        let kind = numbers.number()?;
+        let number = numbers.number()?;
+        Answer::try_from((kind, number))
     }
 }

@@ -1,173 +1,77 @@
-// Calls of the entries with lists by value. The output that is lent to a call is filled before it, and comes back whole.
-use crate::answers;
-use crate::answers::Answer;
-use case_text::lists::List;
-use case_text::{lists, numbers};
-
-pub const ACCEPT: usize = 1;
-
-pub const FIRST: usize = 2;
-
-pub const SUCCESSOR: usize = 3;
-
-pub const CODE_OF_MAP: usize = 4;
-
-pub const MAP_OF_CODE: usize = 5;
-
-pub const ISOMORPHISM: usize = 6;
-
-// The number 7 is that of the census, which is no entry of this crate.
-pub const PREDECESSOR: usize = 8;
-
-pub const SUM: usize = 9;
-
-pub const PRODUCT: usize = 10;
-
-pub const TABLE_COUNT: usize = 11;
-
-pub const PERIOD: usize = 12;
+// Calls of entries, for comparisons that go on with what they find.
+use case_text::faults::Fault;
+use case_text::lent::{Called, call};
+use patterns::{Found, Refusal, Reply};
+use std::alloc::Global;
 
 // More room than any output takes.
 const WIDE: usize = 2000;
 
-// The kind of no answer: there is no such entry here.
-const UNKNOWN: usize = 99;
-
-// What a call answered, and all of the output, of which the first `room` places were lent.
-#[derive(Clone, Copy)]
-pub struct Written {
-    pub bytes: [u8; 10000],
-    pub room: usize,
-    pub kind: usize,
-    pub value: usize,
+fn refused(_: Refusal) -> Fault {
+    Fault::Refused
 }
 
-fn unknown(entry: usize) -> Answer {
-    Answer {
-        kind: UNKNOWN,
-        value: entry,
-    }
-}
-
-fn call_on_code(entry: usize, count: usize, code: &[u8], out: &mut [u8]) -> Answer {
-    if entry == ACCEPT {
-        return answers::of_reply(engine::accept(code));
-    }
-    if entry == FIRST {
-        return answers::of_reply(engine::first(count, out));
-    }
-    if entry == SUCCESSOR {
-        return answers::of_successor(engine::successor(code, out));
-    }
-    unknown(entry)
-}
-
-fn call_on_map(entry: usize, f: &[u8], g: &[u8], out: &mut [u8]) -> Answer {
-    if entry == CODE_OF_MAP {
-        return answers::of_reply(engine::code_of_map(f, out));
-    }
-    if entry == MAP_OF_CODE {
-        return answers::of_reply(engine::map_of_code(f, out));
-    }
-    if entry == ISOMORPHISM {
-        return answers::of_isomorphism(engine::isomorphism(f, g, out));
-    }
-    unknown(entry)
-}
-
-fn call_on_codes(entry: usize, first: &[u8], second: &[u8], out: &mut [u8]) -> Answer {
-    if entry == SUM {
-        return answers::of_reply(engine::sum(first, second, out));
-    }
-    if entry == PRODUCT {
-        return answers::of_reply(engine::product(first, second, out));
-    }
-    if entry == TABLE_COUNT {
-        return answers::of_quantity(engine::table_count(first));
-    }
-    unknown(entry)
-}
-
-fn answer(entry: usize, count: usize, a: &[u8], b: &[u8], out: &mut [u8]) -> Answer {
-    if entry <= SUCCESSOR {
-        return call_on_code(entry, count, a, out);
-    }
-    if entry == PREDECESSOR {
-        return answers::of_predecessor(engine::predecessor(a, out));
-    }
-    if entry == PERIOD {
-        return answers::of_quantity(engine::period(a));
-    }
-    if SUM <= entry {
-        return call_on_codes(entry, a, b, out);
-    }
-    call_on_map(entry, a, b, out)
-}
-
-// Calls the entry with this number on `count`, or on `a`, or on `a` and `b`, and lends it `room` places.
-pub fn call(entry: usize, count: usize, a: List, b: List, room: usize) -> Written {
-    let left = a.bytes;
-    let n = numbers::within(a.len, &left);
-    let right = b.bytes;
-    let m = numbers::within(b.len, &right);
-    let mut bytes = lists::blank();
-    let room = numbers::within(room, &bytes);
-    let found = answer(entry, count, &left[0..n], &right[0..m], &mut bytes[0..room]);
-    Written {
-        bytes,
-        room,
-        kind: found.kind,
-        value: found.value,
+// The list that an entry writes, or none where it finds none.
+fn found<F: FnOnce(&mut [u8]) -> Found>(alloc: Global, entry: F) -> Result<Option<Vec<u8>>, Fault>
+    requires { F.IsAlwaysCallable entry }
+{
+    let Called { answer, mut output } = call(alloc, WIDE, entry)?;
+    match answer.map_err(refused)? {
+        Some(len) => {
+            output.truncate(len);
+            Ok(Some(output))
+        }
+        None => Ok(None),
     }
 }
 
-// The list that a call wrote; of no bytes where it wrote none.
-pub fn result(written: Written) -> List {
-    let bytes = written.bytes;
-    if written.kind == answers::LENGTH {
-        return List {
-            bytes,
-            len: written.value,
-            next: 0,
-        };
-    }
-    List {
-        bytes,
-        len: 0,
-        next: 0,
-    }
+// The list that an entry writes.
+fn written<F: FnOnce(&mut [u8]) -> Reply>(alloc: Global, entry: F) -> Result<Vec<u8>, Fault>
+    requires { F.IsAlwaysCallable entry }
+{
+    let Called { answer, mut output } = call(alloc, WIDE, entry)?;
+    output.truncate(answer.map_err(refused)?);
+    Ok(output)
 }
 
-pub fn first(n: usize) -> List {
-    let none = lists::empty();
-    result(call(FIRST, n, none, none, WIDE))
+pub fn first(alloc: Global, n: usize) -> Result<Vec<u8>, Fault> {
+    written(alloc, |out| engine::first(n, out))
 }
 
-pub fn code_of_map(table: List) -> List {
-    result(call(CODE_OF_MAP, 0, table, table, WIDE))
+pub fn code_of_map(alloc: Global, table: &[u8]) -> Result<Vec<u8>, Fault> {
+    written(alloc, |out| engine::code_of_map(table, out))
 }
 
-pub fn map_of_code(code: List) -> List {
-    result(call(MAP_OF_CODE, 0, code, code, WIDE))
+pub fn map_of_code(alloc: Global, code: &[u8]) -> Result<Vec<u8>, Fault> {
+    written(alloc, |out| engine::map_of_code(code, out))
 }
 
-pub fn isomorphism(f: List, g: List) -> List {
-    result(call(ISOMORPHISM, 0, f, g, WIDE))
+// A renaming of the points of f that makes it g, where there is one.
+pub fn isomorphism(alloc: Global, f: &[u8], g: &[u8]) -> Result<Option<Vec<u8>>, Fault> {
+    found(alloc, |out| engine::isomorphism(f, g, out))
 }
 
-pub fn successor(code: List) -> Written {
-    call(SUCCESSOR, 0, code, code, WIDE)
+// The code after this one; none after the last.
+pub fn successor(alloc: Global, code: &[u8]) -> Result<Option<Vec<u8>>, Fault> {
+    found(alloc, |out| engine::successor(code, out))
 }
 
-pub fn predecessor(code: List) -> Written {
-    call(PREDECESSOR, 0, code, code, WIDE)
+// The code before this one; none before the first.
+pub fn predecessor(alloc: Global, code: &[u8]) -> Result<Option<Vec<u8>>, Fault> {
+    found(alloc, |out| engine::predecessor(code, out))
 }
 
 // Whether the code is accepted, and has n points.
-pub fn is_accepted(code: List, n: usize) -> bool {
-    let found = call(ACCEPT, 0, code, code, 0);
-    if found.kind != answers::LENGTH {
-        return false;
-    }
-    found.value == n
+pub fn is_accepted(code: &[u8], n: usize) -> bool {
+    engine::accept(code) == Ok(n)
+}
+
+// How many tables have the code.
+pub fn table_count(code: &[u8]) -> Result<u64, Fault> {
+    engine::table_count(code).map_err(refused)
+}
+
+// The period of a map.
+pub fn period(table: &[u8]) -> Result<u64, Fault> {
+    engine::period(table).map_err(refused)
 }

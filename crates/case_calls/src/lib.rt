@@ -1,5 +1,7 @@
-// The entries of the engine that answer with one list or one number, called by their numbers in the files of cases [tools/README.md]: lists go in and come out by value.
+// The entries of the engine that answer with one list or one number: as the files of cases name them and tell their answers [tools/README.md], and as calls that
+// write a list of their own.
 #![tactic(auto)]
 
 pub mod answers;
 pub mod calls;
+pub mod entries;

@@ -1,6 +1,7 @@
-// What all comparisons share: texts of decimal numbers and the lists in them, the files that hold them, and the line that a group prints.
+// What all comparisons share: the numbers of a case, lists that are lent to an entry, why a comparison cannot be made, and the line that a group prints.
 #![tactic(auto)]
 
-pub mod lists;
+pub mod faults;
+pub mod lent;
 pub mod numbers;
 pub mod scores;

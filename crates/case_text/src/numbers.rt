@@ -1,87 +1,84 @@
-// Texts of decimal numbers, each ended by one byte that is no digit [tools/README.md].
-ghost use Rattle.std.specs.Prelude.{◌<◌, ◌≤◌, length};
+// The numbers of a case: decimal ones, each ended by a space or the end of the line [tools/README.md].
+use crate::faults::Fault;
+use std::alloc::Global;
+use std::str::{FromStr, SplitAsciiWhitespace};
 
-// A number that was read, and the place after it.
-#[derive(Clone, Copy)]
-pub struct Taken {
-    pub value: usize,
-    pub next: usize,
+// The numbers of a line that are still to be read.
+#[derive(Drop)]
+pub struct Numbers<'a> {
+    left: SplitAsciiWhitespace<'a>,
 }
 
-// The value with one more digit; from 1,000,000,000,000 on it stays. So it has up to 13 digits, and a number of tables is read whole.
-fn more(value: usize, digit: u8) -> usize {
-    if digit < 48 {
-        return value;
+// What an entry told: two numbers, or the number of the cause of its refusal.
+pub type Told = Result<(usize, usize), u8>;
+
+// A list as it is written: its length, and the pattern that repeats until the length is reached.
+#[derive(Debug, Drop)]
+pub struct Pattern {
+    pub len: usize,
+    pub bytes: Vec<u8>,
+}
+
+impl Pattern {
+    // The list; of a pattern that is longer it is the beginning, and one of no bytes makes none.
+    pub fn repeated(&self, alloc: Global) -> Result<Vec<u8>, Fault> {
+        let bytes = self.bytes.iter().copied();
+        Ok(bytes.cycle().take(self.len).collect(alloc)?)
     }
-    if 1000000000000 <= value {
-        return value;
-    }
-    value * 10 + wide(digit - 48)
 }
 
-pub fn wide(x: u8) -> usize
-    ensures { result < 256 }
-{
-    x as usize
-}
-
-// One more where `yes`, up to a million.
-pub fn counted(count: usize, yes: bool) -> usize {
-    if yes {
-        if count < 1000000 {
-            return count + 1;
+impl<'a> Numbers<'a> {
+    pub fn of(line: &'a str) -> Self {
+        Numbers {
+            left: line.split_ascii_whitespace(),
         }
     }
-    count
-}
 
-// The sum of two counts; where one is greater than a million, which no count is, 0.
-pub fn sum(a: usize, b: usize) -> usize {
-    if 1000000 < a {
-        return 0;
+    // Whether no number is left.
+    pub fn is_done(&mut self) -> bool {
+        self.left.next().is_none()
     }
-    if 1000000 < b {
-        return 0;
-    }
-    a + b
-}
 
-pub fn greater(a: usize, b: usize) -> usize {
-    if a < b {
-        return b;
+    fn read<T: FromStr>(&mut self) -> Result<T, Fault>
+    where
+        T::Err: Drop,
+    {
+        let word = self.left.next().ok_or(Fault::Malformed)?;
+        word.parse().map_err(|_| Fault::Malformed)
     }
-    a
-}
 
-// The lesser of `k` and the length of `s`.
-pub fn within(k: usize, s: &[u8]) -> usize
-    ensures { result ≤ length s.now }
-{
-    if k < s.len() {
-        return k;
+    pub fn number(&mut self) -> Result<usize, Fault> {
+        self.read()
     }
-    s.len()
-}
 
-// The number at `at`.
-pub fn token(text: &[u8], at: usize) -> Taken {
-    let mut value = 0;
-    let mut i = at;
-    while i < text.len() {
-        let b = text[i];
-        if b < 48 {
-            return Taken { value, next: i + 1 };
+    pub fn byte(&mut self) -> Result<u8, Fault> {
+        self.read()
+    }
+
+    // What an entry must tell: the kind of its answer, and two numbers, of which a refusal has one and 0.
+    pub fn told(&mut self) -> Result<Told, Fault> {
+        let kind = self.number()?;
+        let first = self.number()?;
+        let second = self.number()?;
+        match (kind, u8::try_from(first), second) {
+            (0, _, _) => Ok(Ok((first, second))),
+            (3, Ok(cause), 0) => Ok(Err(cause)),
+            _ => Err(Fault::Malformed),
         }
-        value = more(value, b);
-        i += 1;
     }
-    Taken { value, next: i }
-}
 
-// The value as a byte; what is no byte is 255.
-pub fn low(value: usize) -> u8 {
-    if value < 256 {
-        return value as u8;
+    // The length of a list, the length of its pattern, and the pattern.
+    pub fn pattern(&mut self, alloc: Global) -> Result<Pattern, Fault> {
+        let len = self.number()?;
+        let period = self.number()?;
+        let mut bytes = Vec::new(alloc);
+        for _ in 0..period {
+            bytes.push(self.byte()?)?;
+        }
+        Ok(Pattern { len, bytes })
     }
-    255
+
+    pub fn list(&mut self, alloc: Global) -> Result<Vec<u8>, Fault> {
+        self.pattern(alloc)?.repeated(alloc)
+    }
 }

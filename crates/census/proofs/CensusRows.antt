@@ -17,7 +17,7 @@ use Rattle.patterns.specs.Census.{Row, rows_of, cycles_of, occurring, census_row
 use Rattle.map_theory.proofs.SideBySide.{rows-lengths, rows-given}
 use Rattle.map_theory.proofs.Occurring.{row-lengths, occurring-few}
 use Rattle.census.specs.Counts.{Counts}
-use Rattle.census.specs.declared.Rows.{Rows}
+use Rattle.census.specs.declared.columns.Rows.{Rows}
 use Rattle.census.specs.Rows.{counted, RowsRoom, Listed, RowsOf}
 
 -- what stands in the first places

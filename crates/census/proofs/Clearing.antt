@@ -12,7 +12,7 @@ use lib.Seq.{get_or-set_same, get_or-set_other}
 use Rattle.lists.proofs.Tests.{◌∈◌, by-test, either, is_false}
 use Rattle.lists.proofs.Comparison.{compare-lawful}
 use Rattle.lists.proofs.Members.{lawful-decides, in-cons-cases, in_list, in_moved, in-or-not}
-use Rattle.patterns.specs.Table.{image, iterate, on_cycle, cycle_from, leads_cycle}
+use Rattle.patterns.specs.Table.{image, iterate, is_table, on_cycle, cycle_from, leads_cycle}
 use Rattle.map_theory.proofs.Orbits.{iterate-add, orbit-length, of-orbit, on_cycle-moves, on_cycle-back}
 use Rattle.map_theory.proofs.Leaders.{in-cycle, of-cycle, leads-on_cycle, leads-least, least-leads}
 use Rattle.cycles.specs.Marks.{Marked}
@@ -36,12 +36,12 @@ pub record Clearing (f marks₀ : List ℕ) (x k y : ℕ) (marks : List ℕ) : T
   pub cleared : (i : ℕ) → i < k → get_or marks (iterate (image f) i x) 0 ≡ 0
   pub others : (z : ℕ) → ((i : ℕ) → z ≡ iterate (image f) i x → ⊥) → get_or marks z 0 ≡ get_or marks₀ z 0
 
-module _ {f before : List ℕ} {x : ℕ} (a : ClearAsked f before x) where
+module _ {f before : List ℕ} {x : ℕ} (table : is_table f ≡ true) (a : ClearAsked f before x) where
   -- the mark of x itself is cleared first
   pub clearing-start : Clearing f (set before x 0) x 1 (image f x) (set before x 0)
   clearing-start =
       record {
-        walk = walking_start (length f) (image f) (inside f a.table) x a.here a.is_on_cycle;
+        walk = walking_start (length f) (image f) (inside f table) x a.here a.is_on_cycle;
         same = length-set before x 0 ∙ a.room;
         cleared = λ i b. let e : i ≡ 0 = omega arith in rw e (get_or-set_same before x 0 0 (omega (arith, a.room, a.here)));
         others = λ z h. refl;
@@ -53,7 +53,7 @@ module _ {f before : List ℕ} {x : ℕ} (a : ClearAsked f before x) where
     clearing-next h =
         let here : y < length marks = omega (arith, c.same, c.walk.point) in
         record {
-          walk = walking-next (length f) (image f) (inside f a.table) c.walk h;
+          walk = walking-next (length f) (image f) (inside f table) c.walk h;
           same = length-set marks y 0 ∙ c.same;
           cleared = below_more (λ i. get_or (set marks y 0) (iterate (image f) i x) 0 ≡ 0) k
               (λ i b. clear-more marks y (iterate (image f) i x) here (c.cleared i b))

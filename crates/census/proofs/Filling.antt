@@ -8,7 +8,7 @@ use lib.ListN.{length, get_or, take, drop, set, length-map, length-set}
 use lib.Seq.{take-suc, drop-cons, set_at, append_snoc, length-take-le}
 use Rattle.patterns.specs.Census.{Row, rows_of}
 use Rattle.patterns.specs.declared.reply.Row.{Row as Entry}
-use Rattle.census.specs.declared.Rows.{Rows}
+use Rattle.census.specs.declared.columns.Rows.{Rows}
 use Rattle.patterns.specs.Replies.{row_of}
 use Rattle.census.specs.Entries.{row_in}
 use Rattle.map_theory.proofs.SideBySide.{rows-length, rows_append}

@@ -3,7 +3,7 @@ use mathlib.Core.Path.{◌≡◌, ap, sym, ◌∙◌}
 use mathlib.Core.List.{List}
 use Prim.Native.Nat.{ℕ, ◌+◌, ◌-◌, ◌≤◌}
 use native.Mathlib.Omega.{arith}
-use lib.ListN.{length, take, replicate, length-replicate, replicate-append-replicate}
+use lib.ListN.{take, replicate, length-replicate, replicate-append-replicate}
 use lib.Seq.{take_at}
 
 -- the first places of an array of zeros
@@ -12,6 +12,3 @@ zeros-taken n k e h =
     let whole : k + (n - k) ≡ n = omega arith in
     ap (take k) (e ∙ sym (replicate-append-replicate k (n - k) 0 ∙ ap (λ i. replicate i 0) whole))
     ∙ take_at (replicate k 0) (replicate (n - k) 0) k (length-replicate k 0)
-
-pub zeros-length : {z : List ℕ} (n k : ℕ) → z ≡ replicate n 0 → k ≤ n → length (take k z) ≡ k
-zeros-length n k e h = ap length (zeros-taken n k e h) ∙ length-replicate k 0

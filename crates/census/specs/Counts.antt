@@ -1,12 +1,11 @@
 -- Counting cycles by their length, each walked once, its marks cleared on the way: what is asked for, and what is found.
 use Rattle.std.specs.Prelude.{◌≡◌, true, List, ℕ, ◌≤◌, ◌<◌, ◌+◌, length, get_or, replicate}
-use Rattle.patterns.specs.Table.{image, iterate, is_table, on_cycle, cycle_from}
+use Rattle.patterns.specs.Table.{image, iterate, on_cycle, cycle_from}
 use Rattle.patterns.specs.Census.{cycles_of}
 use Rattle.cycles.specs.Marks.{Marked}
 
 -- x is a point of a table and on a cycle, and there is a mark for each point
 pub record ClearAsked (f marks : List ℕ) (x : ℕ) : Type 0 where
-  pub table : is_table f ≡ true
   pub room : length marks ≡ length f
   pub here : x < length f
   pub is_on_cycle : on_cycle (length f) (image f) x ≡ true
@@ -17,10 +16,8 @@ pub record CycleCleared (f before : List ℕ) (x l : ℕ) (after : List ℕ) : T
   pub cleared : (i : ℕ) → get_or after (iterate (image f) i x) 0 ≡ 0
   pub others : (y : ℕ) → ((i : ℕ) → y ≡ iterate (image f) i x → ⊥) → get_or after y 0 ≡ get_or before y 0
 
--- a table f of at most 200 points with its points on cycles marked, and a 0 for every number from 0 to the number of points
+-- a table f with its points on cycles marked, and a 0 for every number from 0 to the number of points
 pub record Blank (f marks counts : List ℕ) : Type 0 where
-  pub table : is_table f ≡ true
-  pub small : length f ≤ 200
   pub marked : Marked f marks
   pub zeros : counts ≡ replicate (length f + 1) 0
 

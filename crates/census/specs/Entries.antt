@@ -1,7 +1,7 @@
 -- The rows of the census as the structs of a lent slice.
 use Rattle.std.specs.Prelude.{ℕ, get_or}
 use Rattle.patterns.specs.Census.{Row}
-use Rattle.census.specs.declared.Rows.{Rows}
+use Rattle.census.specs.declared.columns.Rows.{Rows}
 
 -- row i of those that r holds
 abbrev pub row_in : Rows → ℕ → Row

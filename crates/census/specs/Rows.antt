@@ -3,7 +3,7 @@ use Rattle.std.specs.Prelude.{◌≡◌, not, List, ◌++◌, map, ℕ, ◌-◌,
 use Rattle.lists.specs.Select.{keep, range}
 use Rattle.patterns.specs.Table.{image}
 use Rattle.patterns.specs.Census.{Row, rows_of, census_rows}
-use Rattle.census.specs.declared.Rows.{Rows}
+use Rattle.census.specs.declared.columns.Rows.{Rows}
 
 -- the numbers from 1 on at which the list of counts is not 0
 abbrev pub counted : List ℕ → List ℕ

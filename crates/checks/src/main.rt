@@ -2,57 +2,60 @@
 // with the refusal of each, the component reader, and runs on maps of 200 points. Each group prints one line: of how many comparisons how many hold.
 #![tactic(auto)]
 
-use case_text::{numbers, scores};
+use case_calls::entries::Entry;
+use case_text::faults::Fault;
+use case_text::numbers::Numbers;
+use case_text::scores;
+use census_checks::CENSUS;
+use std::alloc::Global;
 use std::io;
 use std::rt::Files;
 
-// The cases of a file.
-fn run_file(rt: &(impl Files + Print), name: &[u8], group: &[u8]) -> io::Result<()> {
-    let file = scores::load(rt, name);
-    let bytes = file.bytes;
-    let len = numbers::within(file.len, &bytes);
-    let text = &bytes[0..len];
-    let entries = entry_checks::cases::run_cases(text);
-    scores::report(
-        rt,
-        group,
-        scores::sum(entries, census_checks::run_cases(text)),
-    )
+// Files of cases, and the names of their groups.
+const REFUSALS: [(&str, &str); 5] = [
+    ("damaged", "damaged codes"),
+    ("damaged_long", "damaged codes of two-byte numbers"),
+    ("reordered", "codes out of order"),
+    ("hostile", "hostile inputs"),
+    ("keystrokes", "codes at each keystroke"),
+];
+
+const ANSWERS: [(&str, &str); 10] = [
+    ("rooms", "rooms and refusals"),
+    ("steps", "successors"),
+    ("steps_back", "predecessors"),
+    ("codes", "codes of maps and maps of codes"),
+    ("census", "census"),
+    ("sums", "sums and products"),
+    ("sums_long", "long sums"),
+    ("products_long", "long products"),
+    ("table_counts", "numbers of tables"),
+    ("periods", "periods"),
+];
+
+// Whether a case holds, whose first number is that of its entry.
+fn holds(alloc: Global, numbers: &mut Numbers<'_>) -> Result<bool, Fault> {
+    match numbers.number()? {
+        CENSUS => census_checks::holds(alloc, numbers),
+        number => entry_checks::cases::holds(alloc, Entry::try_from(number)?, numbers),
+    }
 }
 
-fn run_refusals(rt: &(impl Files + Print)) -> io::Result<()> {
-    run_file(rt, b"damaged", b"damaged codes")?;
-    run_file(rt, b"damaged_long", b"damaged codes of two-byte numbers")?;
-    run_file(rt, b"reordered", b"codes out of order")?;
-    run_file(rt, b"hostile", b"hostile inputs")?;
-    run_file(rt, b"keystrokes", b"codes at each keystroke")
-}
-
-fn run_answers(rt: &(impl Files + Print)) -> io::Result<()> {
-    run_file(rt, b"rooms", b"rooms and refusals")?;
-    run_file(rt, b"steps", b"successors")?;
-    run_file(rt, b"steps_back", b"predecessors")?;
-    run_file(rt, b"codes", b"codes of maps and maps of codes")?;
-    run_file(rt, b"census", b"census")
-}
-
-fn run_sums(rt: &(impl Files + Print)) -> io::Result<()> {
-    run_file(rt, b"sums", b"sums and products")?;
-    run_file(rt, b"sums_long", b"long sums")?;
-    run_file(rt, b"products_long", b"long products")
+fn run(rt: &(impl Files + Print + AllocGlobal), groups: &[(&str, &str)]) -> io::Result<()> {
+    for (name, group) in groups.iter().copied() {
+        scores::run(rt, name, group, holds)?;
+    }
+    Ok(())
 }
 
 fn main(rt: HostRuntime) -> io::Result<()> {
-    run_file(&rt, b"examples", b"examples")?;
+    run(&rt, &[("examples", "examples")])?;
     list_checks::run(&rt)?;
-    run_refusals(&rt)?;
-    run_answers(&rt)?;
-    run_sums(&rt)?;
-    run_file(&rt, b"table_counts", b"numbers of tables")?;
-    run_file(&rt, b"periods", b"periods")?;
-    greatest_checks::run(&rt, b"greatest", b"greatest periods")?;
-    page_checks::run(&rt, b"pages", b"pages of codes")?;
-    page_checks::run(&rt, b"pages_long", b"long pages")?;
-    reader_checks::run(&rt, b"components")?;
-    entry_checks::pairs::run(&rt, b"pairs")
+    run(&rt, &REFUSALS)?;
+    run(&rt, &ANSWERS)?;
+    greatest_checks::run(&rt, "greatest", "greatest periods")?;
+    page_checks::run(&rt, "pages", "pages of codes")?;
+    page_checks::run(&rt, "pages_long", "long pages")?;
+    reader_checks::run(&rt, "components")?;
+    entry_checks::pairs::run(&rt, "pairs")
 }

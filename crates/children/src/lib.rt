@@ -10,7 +10,7 @@ ghost use Rattle.component_theory.specs.ChildPlaces.{child_at};
 ghost use Rattle.memory.specs.Memory.{Held};
 ghost use Rattle.children.specs.Candidates.{HeldCandidate, Gave};
 
-use components::{Rotation, least_rotation};
+use components::least_rotation;
 use trees::{at_most, last_branch, merge_left, merge_right};
 
 // No rotation of the component is less.
@@ -18,10 +18,7 @@ fn is_least(s: &[u8]) -> bool
     requires { Held s.now }
     ensures { (c : Component) → s.now ≡ flat c → result ≡ each (at_most compare_component c) (rotations c) }
 {
-    match least_rotation(s) {
-        Rotation::Least(_) => true,
-        Rotation::Lesser => false,
-    }
+    least_rotation(s).is_some()
 }
 
 // The left merge at `i`, where it is a child.

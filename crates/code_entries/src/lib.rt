@@ -7,9 +7,8 @@ ghost use Rattle.patterns.specs.Replies.{answer_of};
 
 use acceptance::accept_into;
 use patterns::{Refusal, Reply, points_room};
-use reading::Accepted;
 use size_lists::first_system;
-use writing::put_system;
+use writing::StoredSystem;
 
 // Accepts a written code with its number of points, or refuses it.
 pub fn accept(code: &[u8]) -> Reply
@@ -17,10 +16,8 @@ pub fn accept(code: &[u8]) -> Reply
 {
     let mut sizes = points_room();
     let mut trees = points_room();
-    match accept_into(code, &mut sizes, &mut trees) {
-        Accepted::System(_, n) => Reply::Length(n),
-        Accepted::Refused(cause) => Reply::Refused(cause),
-    }
+    let accepted = accept_into(code, &mut sizes, &mut trees)?;
+    Ok(accepted.points)
 }
 
 // Puts the first code of as many points as both slices have places into `out`.
@@ -29,7 +26,7 @@ fn put_first(sizes: &mut [u8], trees: &mut [u8], out: &mut [u8]) -> Reply
     ensures { Replied (first_of (length sizes.old)) out.old (answer_of result) out.new }
 {
     first_system(sizes, trees);
-    put_system(sizes, trees, out)
+    StoredSystem { sizes, trees }.put(out)
 }
 
 // Writes the first code of `n` points.
@@ -37,7 +34,7 @@ pub fn first(n: usize, out: &mut [u8]) -> Reply
     ensures { Replied (first_of n) out.old (answer_of result) out.new }
 {
     if 200 < n {
-        return Reply::Refused(Refusal::Count);
+        return Err(Refusal::Count);
     }
     let mut sizes = points_room();
     let mut trees = points_room();

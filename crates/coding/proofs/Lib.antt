@@ -2,6 +2,5 @@
 pub mod Growing
 pub mod Circling
 pub mod TurnedLeast
-pub mod Preparing
 pub mod Collecting
 pub mod CodedSizes

@@ -8,7 +8,7 @@ use Rattle.patterns.specs.Isomorphism.{Isomorphism}
 use Rattle.cycles.specs.Marks.{Marked}
 use Rattle.links.specs.Links.{Links}
 use Rattle.links.specs.Leads.{Leads}
-use Rattle.coding.specs.declared.LabelledSystem.{LabelledSystem}
+use Rattle.coding.specs.declared.labelled.LabelledSystem.{LabelledSystem}
 use Rattle.coding.specs.Writing.{Prepared}
 
 -- a table with its marks, and room for a size, a tree and a label for each point
@@ -32,6 +32,17 @@ pub record SystemWritten (f : List ℕ) (r : ℕ) (sizes trees labels : List ℕ
   pub trees_are : trees ≡ gather flat (system_of_table f)
   pub labels_are : Isomorphism (length f) (map_of (system_of_table f)) f labels
 
+-- the places of a system by value that are used
+abbrev pub sizes_of : LabelledSystem → List ℕ
+sizes_of r = take r.components r.sizes
+
+abbrev pub trees_of : LabelledSystem → List ℕ
+trees_of r = take r.points r.trees
+
+abbrev pub labels_of : LabelledSystem → List ℕ
+labels_of r = take r.points r.labels
+
 -- the same by value: each slice is the front of an array, a place for each point
-abbrev pub CodedAs : List ℕ → LabelledSystem → Type 0
-CodedAs f r = SystemWritten f r.components (take (length f) r.sizes) (take (length f) r.trees) (take (length f) r.labels)
+pub record CodedAs (f : List ℕ) (r : LabelledSystem) : Type 0 where
+  pub points_are : r.points ≡ length f
+  pub written : SystemWritten f r.components (take (length f) r.sizes) (trees_of r) (labels_of r)

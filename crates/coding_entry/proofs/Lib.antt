@@ -1,2 +1,3 @@
 -- The laws that the entry cites.
 pub mod CodedPut
+pub mod Refusals

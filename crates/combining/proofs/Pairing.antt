@@ -14,7 +14,7 @@ use Rattle.map_theory.proofs.Isomorphisms.{table_below}
 use Rattle.combining.specs.declared.Operation.TheVariants.{Product}
 use Rattle.combining.specs.Combining.{CombineAsked}
 use Rattle.written.specs.Putting.{placed}
-use Rattle.written.proofs.Placing.{placed-length, placed-none, placed-more, placed-all}
+use Rattle.written.proofs.Placing.{placed-length, placed-more, placed-all}
 use Rattle.arithmetic_theory.proofs.Products.{product-points}
 
 -- the pairs of an image are points of the result
@@ -27,9 +27,6 @@ image-pairs {f} {g} a {i} h =
 pub record Pairing (f g out₀ out : List ℕ) (i : ℕ) : Type 0 where
   pub within : i ≤ length f
   pub output : out ≡ placed 0 (product_table (take i f) g) out₀
-
-pub pairing-start : (f g out : List ℕ) → Pairing f g out out 0
-pairing-start f g out = record { within = omega arith; output = sym (placed-none 0 out) }
 
 module _ {f g out₀ out : List ℕ} {i : ℕ} (p : Pairing f g out₀ out i) (room : length out₀ ≡ length f * length g) where
   count : length (product_table (take i f) g) ≡ i * length g

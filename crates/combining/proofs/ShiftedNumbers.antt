@@ -1,28 +1,24 @@
 -- Writing the numbers of a list, each greater by the same, place after place: two lists written so side by side, and when all numbers are bytes.
 use mathlib.Core.Path.{◌≡◌, refl, ap, sym, ◌∙◌}
 use mathlib.Core.Bool.{true}
-use mathlib.Core.List.{List, [], ◌∷◌, ◌++◌, map, map-append, map-id}
+use mathlib.Core.List.{List, [], ◌∷◌, ◌++◌, map, map-append}
 use Prim.Native.Nat.{ℕ, ◌+◌, ◌≤◌, ◌<◌}
 use native.Mathlib.Numerals.{add-one}
 use native.Mathlib.Omega.{arith}
-use lib.ListN.{length, get_or, take, set, length-map}
-use lib.Seq.{take-suc, take_all, length-take-le}
-use Rattle.lists.proofs.Gathering.{map_same}
+use lib.ListN.{length, get_or, take, drop, set, length-map}
+use lib.Seq.{take-suc, length-take-le}
 use Rattle.patterns.specs.Table.{is_table}
 use Rattle.patterns.specs.Arithmetic.{sum_table}
 use Rattle.map_theory.proofs.Isomorphisms.{table_below}
 use Rattle.arithmetic_theory.proofs.Sums.{sum-points}
 use Rattle.written.specs.Putting.{placed}
 use Rattle.combining.specs.Combining.{ShiftAsked}
-use Rattle.written.proofs.Placing.{placed-length, placed-none, placed_one, placed-more, placed-all}
+use Rattle.written.proofs.Placing.{placed-length, placed_one, placed-more, placed-all}
 
 -- the first j numbers of g, changed by h, stand in the output from `at` on
 pub record Shifting (h : ℕ → ℕ) (g : List ℕ) (at : ℕ) (out₀ out : List ℕ) (j : ℕ) : Type 0 where
   pub within : j ≤ length g
   pub output : out ≡ placed at (map h (take j g)) out₀
-
-pub shifting-start : (h : ℕ → ℕ) (g : List ℕ) (at : ℕ) (out : List ℕ) → Shifting h g at out out 0
-shifting-start h g at out = record { within = omega arith; output = sym (placed-none at out) }
 
 module _ {h : ℕ → ℕ} {g : List ℕ} {at : ℕ} {out₀ out : List ℕ} {j : ℕ} (s : Shifting h g at out₀ out j) where
   count : length (map h (take j g)) ≡ j
@@ -45,19 +41,15 @@ module _ {h : ℕ → ℕ} {g : List ℕ} {at : ℕ} {out₀ out : List ℕ} {j 
             ∙ ap (λ l. placed at l out₀) (sym more);
       }
 
-  pub shifting-end : length g ≤ j → out ≡ placed at (map h g) out₀
-  shifting-end k = s.output ∙ ap (λ l. placed at (map h l) out₀) (take_all j g k)
-
 -- the first list as it is, and behind it the second
-pub sum-placed : (f g out : List ℕ) {first second : List ℕ} → length out ≡ length f + length g → first ≡ placed 0 (map (λ x. 0 + x) f) out
-    → second ≡ placed (length f) (map (λ y. length f + y) g) first → second ≡ sum_table f g
+pub sum-placed : (f g out : List ℕ) {first second : List ℕ} → length out ≡ length f + length g → first ≡ f
+    → second ≡ placed (length f) (map (λ y. length f + y) g) (first ++ drop (length f) out) → second ≡ sum_table f g
 sum-placed f g out {first} {second} room p q =
     let behind = map (λ y. length f + y) g in
-    let same : map (λ x. 0 + x) f ≡ f = map_same (λ x. 0 + x) (λ x. x) f (λ x m. omega arith) ∙ map-id f in
     let start : length f ≡ 0 + length f = omega arith in
     q
-    ∙ ap (placed (length f) behind) (p ∙ ap (λ l. placed 0 l out) same)
-    ∙ ap (λ n. placed n behind (placed 0 f out)) start
+    ∙ ap (λ l. placed (length f) behind (l ++ drop (length f) out)) p
+    ∙ ap (λ n. placed n behind (f ++ drop n out)) start
     ∙ placed-more 0 f behind out (omega arith)
     ∙ placed-all (sum_table f g) out (sum-points f g ∙ sym room)
 

@@ -6,8 +6,9 @@ ghost use Rattle.written.specs.Putting.{placed};
 ghost use Rattle.combining.specs.declared.Operation.TheVariants.{Sum, Product};
 ghost use Rattle.combining.specs.Combining.{points_of, table_of, ShiftAsked, CombineAsked};
 
-// Which table is made of two: that of both side by side, or that of pairs.
-#[derive(Clone, Copy)]
+// Which table is made of two: that of both side by side, or that of pairs. An enum, since `points_of` and `table_of` tell them apart; a trait would need two types
+// without a value, a ghost member for each of these and their law, in place of two matches.
+#[derive(Clone, Copy, Debug, PartialEq, Eq, Hash)]
 pub enum Operation {
     Sum,
     Product,
@@ -18,11 +19,8 @@ fn shift_into(shift: usize, g: &[u8], out: &mut [u8], at: usize)
     requires { ShiftAsked shift g.now out.old at }
     ensures { out.new ≡ placed at (map (λ y. shift + y) g.now) out.old }
 {
-    let mut j = 0;
-    while j < g.len() {
-        let y = g[j] as usize;
-        out[at + j] = (shift + y) as u8;
-        j += 1;
+    for (j, y) in g.iter().enumerate() {
+        out[at + j] = (shift + usize::from(*y)) as u8;
     }
 }
 
@@ -32,7 +30,7 @@ fn sum_into(f: &[u8], g: &[u8], out: &mut [u8])
     ensures { out.new ≡ table_of Sum f.now g.now }
 {
     let n = f.len();
-    shift_into(0, f, out, 0);
+    out[..n].copy_from_slice(f);
     shift_into(n, g, out, n);
 }
 
@@ -42,11 +40,8 @@ fn product_into(f: &[u8], g: &[u8], out: &mut [u8])
     ensures { out.new ≡ table_of Product f.now g.now }
 {
     let m = g.len();
-    let mut i = 0;
-    while i < f.len() {
-        let x = f[i] as usize;
-        shift_into(x * m, g, out, i * m);
-        i += 1;
+    for (i, x) in f.iter().enumerate() {
+        shift_into(usize::from(*x) * m, g, out, i * m);
     }
 }
 

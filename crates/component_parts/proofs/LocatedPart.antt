@@ -1,17 +1,17 @@
 -- The part that shows the component at a position of a system in memory: its two ends in the written code, and how many of its rotations equal it.
-use mathlib.Core.Path.{◌≡◌, ap, sym, ◌∙◌}
+use mathlib.Core.Path.{◌≡◌, ap, ◌∙◌}
 use mathlib.Core.List.{List, []}
 use Prim.Native.Nat.{ℕ, ◌+◌, ◌-◌, ◌≤◌, ◌<◌}
 use native.Mathlib.Omega.{arith}
-use borrow.Author.Tests.{lt-ltb, le-ltb}
+use borrow.Author.Tests.{lt-ltb}
 use lib.ListN.{length, take, drop, get_or}
-use Rattle.lists.proofs.Tests.{cond-true, cond-false, each_member}
+use Rattle.lists.proofs.Tests.{cond-true, each_member}
 use Rattle.lists.proofs.Places.{in-index}
 use Rattle.patterns.specs.Component.{Component, flat, rotation_symmetry, valid_component}
 use Rattle.patterns.specs.System.{System}
 use Rattle.patterns.specs.Written.{component_numbers, bytes}
 use Rattle.patterns.specs.Reading.{done}
-use Rattle.patterns.specs.Replies.{PartAnswer, part_is, part_refused}
+use Rattle.patterns.specs.Replies.{PartAnswer, part_is}
 use Rattle.patterns.specs.Entry.{part_in, part_answered, component_in}
 use Rattle.component_theory.proofs.CanonicalComponents.{canonical-valid}
 use Rattle.memory.specs.Memory.{Holds, HeldSystem}
@@ -26,11 +26,6 @@ use Rattle.writing.proofs.CanonicalHeld.{canonical-held}
 -- a component takes few bytes
 pub few_bytes : {s : List ℕ} (w : HeldValid s) (n : ℕ) → ((c : Component) → s ≡ flat c → n ≡ length (bytes (component_numbers c))) → n ≤ 402
 few_bytes w n f = let c = w.trees in omega (arith, f c w.is, bytes-length (component_numbers c), ap length w.is, w.small)
-
--- there is no component of that position
-pub not-located : {sizes trees : List ℕ} (position : ℕ) → length sizes ≤ position → (S : System) → Holds S sizes trees
-    → part_refused 9 ≡ part_answered (component_in S position)
-not-located position k S h = sym (ap part_answered (cond-false _ _ (le-ltb position (length S) (omega (arith, held-count h)))))
 
 -- The component at a position, which begins at `start` in the written code and at `from` in the trees.
 module _ {sizes trees : List ℕ} (w : HeldCanonical sizes trees) where

@@ -1,5 +1,6 @@
 -- What a reply of the component reader says of the code, and of the part of the code that it shows.
 use denote.Ref.{Bor}
+use Rattle.std.specs.Prelude.{Result as Reply, Ok}
 use mathlib.Core.Path.{◌≡◌, refl, ap, sym, ◌∙◌}
 use mathlib.Core.List.{List}
 use Prim.Native.Nat.{ℕ, ◌≤◌, ◌<◌}
@@ -7,11 +8,10 @@ use lib.ListN.{length, get_or}
 use Rattle.lists.proofs.Tests.{clash}
 use Rattle.patterns.specs.declared.Refusal.{Refusal}
 use Rattle.patterns.specs.declared.reply.Stretch.{Stretch}
-use Rattle.patterns.specs.declared.reply.Stretch.TheVariants.{Part as Shows, Refused}
 use Rattle.patterns.specs.System.{System}
 use Rattle.patterns.specs.Reading.{Result, done, fault, accepted}
 use Rattle.patterns.specs.Replies.{number_of, PartAnswer, part_refused, part_answer}
-use Rattle.patterns.specs.Entry.{Part, component_of, component_in, part_answered, PartOf, Shown}
+use Rattle.patterns.specs.Entry.{Part, component_of, component_in, part_answered}
 use Rattle.form_theory.proofs.Bounds.{below_at}
 use Rattle.form_theory.proofs.ComponentStands.{stands, stands-within, answer-part}
 
@@ -30,18 +30,10 @@ answer-refused (done part) n e = clash cc
 answer-refused (fault c) n e = (c, refl)
 
 -- From the reply to what is shown.
-module _ (code : Bor (List ℕ)) (i : ℕ) {r : Stretch} (a : part_answer r ≡ part_answered (component_of code.now i)) where
-  module _ (start end turns : ℕ) (e : r ≡ Shows start end turns) where
-    found : component_of code.now i ≡ done (record { start = start; end = end; turns = turns })
-    found = answer-part (component_of code.now i) start end turns (sym (ap part_answer e) ∙ a)
+module _ (code : Bor (List ℕ)) (i : ℕ) {r : Reply Stretch Refusal} (a : part_answer r ≡ part_answered (component_of code.now i)) where
+  module _ (shows : Stretch) (e : r ≡ Ok shows) where
+    found : component_of code.now i ≡ done (record { start = shows.start; end = shows.end; turns = shows.turns })
+    found = answer-part (component_of code.now i) shows.start shows.end shows.turns (sym (ap part_answer e) ∙ a)
 
-    pub part-within : ((j : ℕ) → j < length code.now → get_or code.now j 0 < 256) → (start < end) × (end ≤ length code.now)
+    pub part-within : ((j : ℕ) → j < length code.now → get_or code.now j 0 < 256) → (shows.start < shows.end) × (shows.end ≤ length code.now)
     part-within h = stands-within (below_at 256 code.now h) (stands code.now i _ found)
-
-    pub part-shown : (part : Bor (List ℕ)) → PartOf code start end part → Shown code (component_of code.now i) part
-    part-shown part p = rw found p
-
-  pub nothing-shown : (c : Refusal) → r ≡ Refused c → (part : Bor (List ℕ)) → PartOf code 0 0 part → Shown code (component_of code.now i) part
-  nothing-shown c e part p =
-      let refusal = answer-refused (component_of code.now i) (number_of c) (sym (ap part_answer e) ∙ a) in
-      rw refusal.1 p

@@ -1,4 +1,5 @@
 -- Components one after another, read up to a place, and what the lent memory then holds.
+use Rattle.std.specs.Prelude.{Result as Read, Ok, Err}
 use mathlib.Core.Path.{◌≡◌, refl, ap, sym, ◌∙◌}
 use mathlib.Core.Bool.{◌||◌}
 use mathlib.Core.List.{List, [], ◌∷◌, ◌++◌, map, append-nil, append_assoc}
@@ -22,8 +23,6 @@ use Rattle.patterns.specs.Reading.{Result, done, fault, and_then, mapped, read_c
 use Rattle.patterns.proofs.Trees.{length-flat}
 use Rattle.written.specs.Putting.{placed}
 use Rattle.written.proofs.Placing.{placed-length}
-use Rattle.tree_reading.specs.declared.Read.{Read}
-use Rattle.tree_reading.specs.declared.Read.TheVariants.{Past, Refused}
 use Rattle.form_theory.specs.ReadComponent.{read_component}
 use Rattle.tree_reading.specs.Walking.{walked_all}
 use Rattle.component_reading.specs.ReadComponents.{MemoryRoom, ReadInto}
@@ -47,11 +46,11 @@ pub record ComponentAt (s : List ℕ) (next rest end : ℕ) (c : Component) : Ty
   pub ends : end ≤ length s
   pub flat_is : take (end - (next + 1)) (drop (next + 1) s) ≡ flat c
 
-component-of : (at next : ℕ) (o : Result Component) → walked_all at o ≡ Past next → (c : Component) × (o ≡ done c) × (next ≡ at + points c)
+component-of : (at next : ℕ) (o : Result Component) → walked_all at o ≡ Ok next → (c : Component) × (o ≡ done c) × (next ≡ at + points c)
 component-of at next (done c) e = (c, refl, cc)
 component-of at next (fault c) e = clash cc
 
-component-fault : (at : ℕ) (c : Refusal) (o : Result Component) → walked_all at o ≡ Refused c → o ≡ fault c
+component-fault : (at : ℕ) (c : Refusal) (o : Result Component) → walked_all at o ≡ Err c → o ≡ fault c
 component-fault at c (done t) e = clash cc
 component-fault at c (fault d) e = ap fault cc
 
@@ -74,7 +73,7 @@ placed-component s next rest end c e z =
       flat_is = rw (k, q) (take_at (flat c) (drop (suc (points c)) (drop next s)) (points c) f);
     }
 
-pub component-at : (s : List ℕ) (next rest end : ℕ) (r : Read) → r ≡ walked_all (next + 1) (read_component rest (drop next s)) → r ≡ Past end
+pub component-at : (s : List ℕ) (next rest end : ℕ) (r : Read ℕ Refusal) → r ≡ walked_all (next + 1) (read_component rest (drop next s)) → r ≡ Ok end
     → (c : Component) × ComponentAt s next rest end c
 component-at s next rest end r f e =
     let g = component-of (next + 1) end (read_component rest (drop next s)) (sym f ∙ e) in
@@ -173,15 +172,15 @@ module _ {s sizes₀ trees₀ : List ℕ} {at m left : ℕ} {sizes trees : List 
       }
 
   -- a component that is refused
-  pub gathering-refused : (c : Refusal) (r : Read) → i < m → r ≡ walked_all (next + 1) (read_component rest (drop next s)) → r ≡ Refused c
-      → ReadInto at (read_components m left (drop at s)) r sizes trees
+  pub gathering-refused : (c : Refusal) (r : Read ℕ Refusal) → i < m → r ≡ walked_all (next + 1) (read_component rest (drop next s)) → r ≡ Err c
+      → ReadInto at (read_components m left (drop at s)) (Err c) sizes trees
   gathering-refused c r h g e =
       let f = component-fault (next + 1) c (read_component rest (drop next s)) (sym g ∙ e) in
       let o : read_components m left (drop at s) ≡ fault c = w.further ∙ rw (more h, components-next (m - (i + 1)) rest (drop next s), f) in
-      record { reply = e ∙ rw o; held = λ S q. clash cc }
+      record { reply = rw o; held = λ S q. clash cc }
 
   -- points are left after the last component
-  pub gathering-over : m ≤ i → 0 < rest → ReadInto at (read_components m left (drop at s)) (Refused Sizes) sizes trees
+  pub gathering-over : m ≤ i → 0 < rest → ReadInto at (read_components m left (drop at s)) (Err Sizes) sizes trees
   unfolding read_components
   gathering-over h p =
       let z : m - i ≡ 0 = omega arith in
@@ -189,7 +188,7 @@ module _ {s sizes₀ trees₀ : List ℕ} {at m left : ℕ} {sizes trees : List 
       record { reply = rw o; held = λ S q. clash cc }
 
   -- nothing is left
-  pub gathering-end : m ≤ i → rest ≤ 0 → ReadInto at (read_components m left (drop at s)) (Past next) sizes trees
+  pub gathering-end : m ≤ i → rest ≤ 0 → ReadInto at (read_components m left (drop at s)) (Ok next) sizes trees
   unfolding read_components
   gathering-end h p =
       let z : m - i ≡ 0 = omega arith in
@@ -199,6 +198,6 @@ module _ {s sizes₀ trees₀ : List ℕ} {at m left : ℕ} {sizes trees : List 
       let k : i ≡ length w.had = sym w.count in
       let n : next ≡ at + (length w.had + weight w.had) = w.place in
       record {
-        reply = rw o (ap Past n);
+        reply = rw o (ap Ok n);
         held = λ S e. let same : w.had ≡ S = cc in rw (← same) record { points_are = rw w.count w.points_are; flat_is = rw (← q) w.flat_is };
       }

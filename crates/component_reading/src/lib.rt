@@ -22,21 +22,16 @@ pub fn read_components(
 {
     let mut next = at;
     let mut rest = left;
-    let mut i = 0;
-    while i < m {
-        let component = read_component(s, next, rest);
-        let Read::Past(end) = component else {
-            return component;
-        };
+    for i in 0..m {
+        let end = read_component(s, next, rest)?;
         let points = end - next - 1;
         narrow(&s[next + 1..end], trees, left - rest);
         sizes[i] = points as u8;
         rest -= points;
         next = end;
-        i += 1;
     }
     if 0 < rest {
-        return Read::Refused(Refusal::Sizes);
+        return Err(Refusal::Sizes);
     }
-    Read::Past(next)
+    Ok(next)
 }

@@ -18,7 +18,7 @@ use Rattle.patterns.proofs.Trees.{size-positive, length-below, length-code, leng
 use Rattle.trees.specs.Beginnings.{leading_points}
 use Rattle.trees.proofs.Walks.{flat-points}
 use Rattle.components.specs.Climbs.{Climbed}
-use Rattle.components.specs.declared.Climb.TheVariants.{Key}
+use Rattle.std.proofs.Common.{Some}
 use Rattle.component_theory.proofs.Lemma8.{lead-has_parent, parent-lead}
 use Rattle.component_theory.proofs.Keys.{ordered-kept, key_left, key_right}
 
@@ -161,7 +161,7 @@ module _ {s : List ℕ} {h : ℕ} {c : Component} (v : Led c h) (e : s ≡ flat 
     has = ap has_parent v.trees ∙ lead-has_parent h t u r
 
     -- the parts in order: a left merge
-    pub climbed-left : at_most compare_tree t u ≡ true → Climbed c (Key h) after
+    pub climbed-left : at_most compare_tree t u ≡ true → Climbed c (Some h) after
     climbed-left k =
         let p : parent c ≡ replicate h point ++ (t ∷ u ∷ r) =
         ap parent v.trees ∙ parent-lead h t u r ∙ ap (λ l. replicate h point ++ l) (ordered-kept t u r k) in (
@@ -179,7 +179,7 @@ module _ {s : List ℕ} {h : ℕ} {c : Component} (v : Led c h) (e : s ≡ flat 
         (omega (arith, length-code u, led-number))
 
     -- the second part is the lesser: a right merge
-    pub climbed-right : {k : ℕ} → at_most compare_tree t u ≡ false → k ≡ length c → Climbed c (Key (k + h)) (exchanged h (h + b) (h + get_or s h 0) after)
+    pub climbed-right : {k : ℕ} → at_most compare_tree t u ≡ false → k ≡ length c → Climbed c (Some (k + h)) (exchanged h (h + b) (h + get_or s h 0) after)
     climbed-right {k} f g =
         let p : parent c ≡ replicate h point ++ (u ∷ t ∷ r) =
         ap parent v.trees ∙ parent-lead h t u r ∙ rw f in (

@@ -10,7 +10,7 @@ use lib.ListN.{length, get_or, take, drop, length-append, take-append-drop}
 use lib.Seq.{take-append-le, take_all}
 use Rattle.lists.specs.Order.{lex, at_most}
 use Rattle.lists.specs.Select.{each}
-use Rattle.lists.proofs.Tests.{◌∈◌, cond-true, cond-false, each-true, each-false}
+use Rattle.lists.proofs.Tests.{◌∈◌, by-test, each-true, each-false}
 use Rattle.lists.proofs.Members.{in_list}
 use Rattle.lists.proofs.Necklace.{Prenecklace, Earlier, prenecklace-one, earlier, prenecklace-equal, prenecklace-greater, prenecklace-smaller}
 use Rattle.patterns.specs.Tree.{size, code, compare_tree}
@@ -23,7 +23,9 @@ use Rattle.component_theory.proofs.Powers.{Powers, powers-total, over-light}
 use Rattle.component_theory.proofs.RotationSymmetry.{symmetry-is}
 use Rattle.component_theory.proofs.Prenecklaces.{prenecklace-powers, period-count, whole-return, whole-necklace, over-less}
 use Rattle.components.specs.RotationTest.{rotation_test}
-use Rattle.components.specs.declared.Rotation.TheVariants.{Least, Lesser}
+use Rattle.std.proofs.Common.{Some, None, eqb}
+use Rattle.std.specs.Bool.{then_some}
+use Rattle.std.proofs.lemmas.Bool.Decides.{nat_tests}
 
 -- the trees so far are a prenecklace, whose period has so many points
 pub record Period (period : ℕ) (a : Component) : Type 0 where
@@ -35,15 +37,15 @@ abbrev pub Kept : ℕ → Component → Component → Type 0
 Kept period a r = Period period a
 
 -- no bytes: there is no rotation
-pub none-less : (s : List ℕ) → length s ≡ 0 → (c : Component) → s ≡ flat c → Least 0 ≡ rotation_test c
+pub none-less : (s : List ℕ) → length s ≡ 0 → (c : Component) → s ≡ flat c → Some 0 ≡ rotation_test c
 unfolding rotation_symmetry
 none-less s h c e =
     let q : c ≡ [] = no-trees c (omega (arith, ap length e, length-flat c)) in
     rw q
 
 -- some rotation is less
-lesser-told : (c : Component) {r : Component} → r ∈ rotations c → at_most compare_component c r ≡ false → Lesser ≡ rotation_test c
-lesser-told c m f = sym (cond-false (Least (rotation_symmetry c)) Lesser (each-false (at_most compare_component c) m f))
+lesser-told : (c : Component) {r : Component} → r ∈ rotations c → at_most compare_component c r ≡ false → None ≡ rotation_test c
+lesser-told c m f = sym (ap (λ b. then_some b (rotation_symmetry c)) (each-false (at_most compare_component c) m f))
 
 -- the first tree is a period
 pub kept-start : {s : List ℕ} → Held s → 0 < length s → Along s (get_or s 0 0) (Kept (get_or s 0 0))
@@ -129,7 +131,7 @@ module _ {s : List ℕ} {at period : ℕ} (w : Along s at (Kept period)) where
         })
 
     -- a smaller tree: a rotation is less
-    pub kept-smaller : trees_at s (at - period) at ≡ Ordering.gt → (c : Component) → s ≡ flat c → Lesser ≡ rotation_test c
+    pub kept-smaller : trees_at s (at - period) at ≡ Ordering.gt → (c : Component) → s ≡ flat c → None ≡ rotation_test c
     unfolding compare_component
     kept-smaller e c q =
         let k = w.kept.count in
@@ -176,7 +178,7 @@ module _ {s : List ℕ} {at period : ℕ} (w : Along s at (Kept period)) where
         ∙ add-zero trees.times
 
     -- something is over: the rotation that begins after the period is less
-    pub kept-cut : (length s % period ≡ 0 → ⊥) → Lesser ≡ rotation_test c
+    kept-cut : (length s % period ≡ 0 → ⊥) → None ≡ rotation_test c
     unfolding compare_component
     kept-cut k =
         let n = whole.count in
@@ -184,7 +186,7 @@ module _ {s : List ℕ} {at period : ℕ} (w : Along s at (Kept period)) where
         lesser-told c (turned-in n c (omega (arith, whole.word.positive, whole.word.within))) (over-less compare_tree-lawful whole.word trees some)
 
     -- nothing is over: no rotation is less, and so many equal the component
-    pub kept_whole : length s % period ≡ 0 → Least (length s / period) ≡ rotation_test c
+    kept_whole : length s % period ≡ 0 → Some (length s / period) ≡ rotation_test c
     unfolding compare_component
     kept_whole k =
         let none : trees.over ≡ [] = no-trees trees.over (sym rest-is ∙ k) in
@@ -195,4 +197,10 @@ module _ {s : List ℕ} {at period : ℕ} (w : Along s at (Kept period)) where
         ap (at_most compare_component c) t.3 ∙ whole-necklace compare_tree-lawful whole.word trees none t.0 t.1 t.2) in
         let trees_are : length c ≡ trees.times * whole.count = omega (arith, period-count compare_tree-lawful whole.word trees, ap length none) in
         let symmetry = symmetry-is c whole.count trees.times (whole-return compare_tree-lawful whole.word trees none) trees_are in
-        ap Least (times-are ∙ sym symmetry) ∙ sym (cond-true (Least (rotation_symmetry c)) Lesser least)
+        ap Some (times-are ∙ sym symmetry) ∙ sym (ap (λ b. then_some b (rotation_symmetry c)) least)
+
+    pub kept-told : then_some (eqb (length s % period) 0) (length s / period) ≡ rotation_test c
+    kept-told =
+        by-test (eqb (length s % period) 0)
+        (λ y. rw y (kept_whole (grind (arith, nat_tests))))
+        (λ n. rw n (kept-cut (grind (arith, nat_tests))))

@@ -1,11 +1,9 @@
 -- A step from a component to its parent.
-use Rattle.std.specs.Prelude.{◌≡◌, true, false, List, ℕ, ◌<◌, length}
+use Rattle.std.specs.Prelude.{◌≡◌, true, false, List, ℕ, ◌<◌, length, Option, Some, None}
 use Rattle.patterns.specs.Component.{Component, flat}
 use Rattle.patterns.specs.Generation.{has_parent, parent}
 use Rattle.trees.specs.Beginnings.{leading_points}
 use Rattle.component_theory.specs.Path.{key}
-use Rattle.components.specs.declared.Climb.{Climb}
-use Rattle.components.specs.declared.Climb.TheVariants.{Root, Key}
 
 -- a component, and a buffer of as many bytes
 pub record HeldBeside (s out : List ℕ) : Type 0 where
@@ -22,6 +20,6 @@ pub record HeldMerge (s : List ℕ) (h count : ℕ) : Type 0 where
   pub counted : count ≡ length trees
 
 -- a step up from c: c has no parent, or its parent is in the buffer, and its key is its place among its parent's candidates
-abbrev pub Climbed : Component → Climb → List ℕ → Type 0
-Climbed c Root out = has_parent c ≡ false
-Climbed c (Key k) out = (has_parent c ≡ true) × (out ≡ flat (parent c)) × (k ≡ key c)
+abbrev pub Climbed : Component → Option ℕ → List ℕ → Type 0
+Climbed c None out = has_parent c ≡ false
+Climbed c (Some k) out = (has_parent c ≡ true) × (out ≡ flat (parent c)) × (k ≡ key c)

@@ -8,8 +8,10 @@ use lib.Dec.{ltb}
 use lib.ListN.{length, get_or}
 use borrow.Author.Tests.{ltb-true, ltb-false}
 use Rattle.lists.proofs.Tests.{by-test}
+use Rattle.std.specs.Prelude.{Some, None}
 use Rattle.patterns.specs.ListingText.{count_line}
 use Rattle.text.proofs.Decimals.{within-one, within_more}
+use Rattle.count_line.specs.Count.{Reads, good, bad}
 
 -- one digit and a newline
 pub record OneDigit (s : List ℕ) : Type 0 where
@@ -87,6 +89,21 @@ two_digits s h =
 pub no_line : (s : List ℕ) → (OneDigit s → ⊥) → (TwoDigits s → ⊥) → (n : ℕ) → n ≤ 14 → s ≡ count_line n → ⊥
 no_line s one two n h e = ⊎_elim one two (line_form s n h e)
 
--- and is short
+-- a line of a count is short
 pub line-short : (n : ℕ) → n ≤ 14 → length (count_line n) ≤ 3
 line-short n h = ⊎_elim (λ o. omega (arith, o.two)) (λ o. omega (arith, o.three)) (line_form (count_line n) n h refl)
+
+-- what a line of either form says, and any other input
+pub reads_one : (s : List ℕ) (n : ℕ) → n ≡ get_or s 0 0 - 48 → length s ≡ 2 → get_or s 1 0 ≡ 10 → 48 ≤ get_or s 0 0 → get_or s 0 0 ≤ 57 → Reads s (Some n)
+reads_one s n e two newline least most =
+    good (omega arith) (rw e (one-digit s (record { two = two; newline = newline; least = least; most = most })))
+
+pub reads_two : (s : List ℕ) (n : ℕ) → n + 38 ≡ get_or s 1 0 → length s ≡ 3 → get_or s 0 0 ≡ 49 → 48 ≤ get_or s 1 0 → get_or s 1 0 ≤ 52 → get_or s 2 0 ≡ 10
+    → Reads s (Some n)
+reads_two s n e three ten least most newline =
+    let k : n ≡ get_or s 1 0 - 38 = omega arith in
+    good (omega arith) (rw k (two_digits s (record { three = three; ten = ten; least = least; most = most; newline = newline })))
+
+pub reads_none : (s : List ℕ) → (length s ≡ 2 → get_or s 1 0 ≡ 10 → 48 ≤ get_or s 0 0 → get_or s 0 0 ≤ 57 → ⊥)
+    → (length s ≡ 3 → get_or s 0 0 ≡ 49 → 48 ≤ get_or s 1 0 → get_or s 1 0 ≤ 52 → get_or s 2 0 ≡ 10 → ⊥) → Reads s None
+reads_none s one two = bad (no_line s (λ o. one o.two o.newline o.least o.most) (λ o. two o.three o.ten o.least o.most o.newline))

@@ -11,8 +11,7 @@ ghost use Rattle.memory.specs.HeldCode.{HeldCanonical};
 ghost use Rattle.counting_theory.specs.Symmetries.{factorial as factorial_of};
 
 use acceptance::accept_into;
-use patterns::{Quantity, Refusal, points_room};
-use reading::Accepted;
+use patterns::{Refusal, points_room};
 use system_symmetries::symmetries;
 
 // 1 · 2 · .. · n.
@@ -21,35 +20,30 @@ fn factorial(n: usize) -> u64
     ensures { result ≡ factorial_of n }
 {
     let mut product = 1;
-    let mut i = 1;
-    while i <= n {
+    for i in 1..=n {
         product *= i as u64;
-        i += 1;
     }
     product
 }
 
 // How many tables have the system: all orders of the points, of which as many as the system has symmetries give one table.
-fn tables_with(sizes: &[u8], trees: &[u8]) -> Quantity
+fn tables_with(sizes: &[u8], trees: &[u8]) -> Result<u64, Refusal>
     requires { HeldCanonical sizes.now trees.now }
     ensures { (S : System) → Holds S sizes.now trees.now → quantity_answer result ≡ answer (tables_counted S) length_is }
 {
     if 15 < trees.len() {
-        return Quantity::Refused(Refusal::Uncounted);
+        return Err(Refusal::Uncounted);
     }
     let orders = factorial(trees.len());
-    let tables = orders / symmetries(sizes, trees);
-    Quantity::Number(tables)
+    Ok(orders / symmetries(sizes, trees))
 }
 
 // How many tables have `code`. The code's own faults come first.
-pub fn table_count(code: &[u8]) -> Quantity
+pub fn table_count(code: &[u8]) -> Result<u64, Refusal>
     ensures { quantity_answer result ≡ answer (table_count code.now) length_is }
 {
     let mut sizes = points_room();
     let mut trees = points_room();
-    match accept_into(code, &mut sizes, &mut trees) {
-        Accepted::Refused(cause) => Quantity::Refused(cause),
-        Accepted::System(m, n) => tables_with(&sizes[..m], &trees[..n]),
-    }
+    let accepted = accept_into(code, &mut sizes, &mut trees)?;
+    tables_with(&sizes[..accepted.components], &trees[..accepted.points])
 }

@@ -1,66 +1,40 @@
 -- Cutting bytes into numbers in one pass: what a step tells, how great a number can be, what is known after each byte, and what that says at the end.
+use Rattle.std.specs.Prelude.{Option, Some, None, is_some, Ok, Err}
 use mathlib.Core.Path.{◌≡◌, refl, ap, sym, ◌∙◌, subst}
-use mathlib.Core.Bool.{◌||◌}
+use mathlib.Core.Bool.{true, false, ◌||◌}
 use mathlib.Core.List.{List, [], ◌∷◌, ◌++◌, append-nil}
-use Prim.Native.Nat.{ℕ, zero, suc, ◌+◌, ◌-◌, ◌*◌, ◌≤◌, ◌<◌}
+use Prim.Native.Nat.{ℕ, zero, suc, ◌+◌, ◌-◌, ◌≤◌, ◌<◌}
 use native.Mathlib.Omega.{arith}
 use lib.Dec.{ltb, leb, eqb}
 use lib.ListN.{length, take, drop, get_or, set, length-append, length-set, length-take, drop_of_length-le}
-use lib.Seq.{drop-cons, take_all, take-append-le, take-nil, set_at, set_out, append_snoc}
-use borrow.Author.Tests.{lt-ltb, le-ltb, le-leb, lt-leb, ne_eqb, ltb-true, ltb-false, leb-false}
+use lib.Seq.{drop-cons, take_all, take-append-le, set_at, set_out, append_snoc}
+use borrow.Author.Tests.{ltb-true, ltb-false, leb-false}
 use Rattle.lists.proofs.Tests.{by-test, clash}
 use Rattle.patterns.specs.declared.Refusal.{Refusal}
-use Rattle.patterns.specs.declared.Refusal.TheVariants.{Truncated, NumberForm}
+use Rattle.patterns.specs.declared.Refusal.TheVariants.{Truncated}
 use Rattle.patterns.specs.Reading.{Result, done, fault, cut}
 use Rattle.patterns.specs.OnePass.{Known, whole, begun, broken, cut_step, going, scanned, scan_step, scan, scan_end}
 use Rattle.form_theory.proofs.Results.{or-false}
 use Rattle.form_theory.proofs.OnePass.{scan-next, prefix-fault, prefix-end}
-use Rattle.cutting.specs.declared.Cut.TheVariants.{Number, Refused}
-use Rattle.cutting.specs.Cutting.{step_reply, cut_reply, stored, CutInto}
-
--- A step, by what its byte is.
-
--- a first byte below 128 is a number
-pub first-low : (x p v : ℕ) → p ≡ 0 → x < 128 → cut_step x p v ≡ whole x
-first-low x zero v q h = rw (lt-ltb x 128 h)
-first-low x (suc p) v q h = absurd (omega arith)
-
--- from 128 on it has the low group of one that goes on
-pub first-high : (x p v : ℕ) → p ≡ 0 → 128 ≤ x → cut_step x p v ≡ begun (x - 128)
-first-high x zero v q h = rw (le-ltb x 128 h)
-first-high x (suc p) v q h = absurd (omega arith)
-
--- a second byte is neither 0 ..
-pub second-zero : (x p v : ℕ) → 0 < p → x ≡ 0 → cut_step x p v ≡ broken NumberForm
-second-zero x zero v q e = absurd (omega arith)
-second-zero x (suc p) v q e = rw e
-
--- .. nor 128 or more
-pub second-high : (x p v : ℕ) → 0 < p → 128 ≤ x → cut_step x p v ≡ broken NumberForm
-second-high x zero v q h = absurd (omega arith)
-second-high x (suc p) v q h = rw (le-leb 128 x h, ne_eqb x 0 (λ e. omega arith))
-
--- it has the high group
-pub second-low : (x p v : ℕ) → 0 < p → 0 < x → x < 128 → cut_step x p v ≡ whole (v + x * 128)
-second-low x zero v q k h = absurd (omega arith)
-second-low x (suc p) v q k h = rw (lt-leb 128 x h, ne_eqb x 0 (λ e. omega arith))
+use Rattle.cutting.specs.declared.Piece.TheVariants.{Whole, Begun}
+use Rattle.cutting.specs.Cutting.{IsFirstByte, place_of, beginning_of, step_reply, cut_reply, stored, CutInto}
 
 -- What the reply of a step tells.
 
-whole-told : (k : Known) (v : ℕ) → Number v 0 ≡ step_reply k → k ≡ whole v
+whole-told : (k : Known) (v : ℕ) → Ok (Whole v) ≡ step_reply k → k ≡ whole v
 whole-told (whole n) v e = cc
 whole-told (begun n) v e = clash cc
 whole-told (broken c) v e = clash cc
 
-begun-told : (k : Known) (v next : ℕ) → Number v next ≡ step_reply k → 0 < next → (k ≡ begun (v - 128)) × (128 ≤ v) × (next ≡ 1)
-begun-told (whole n) v next e h = let z : next ≡ 0 = cc in absurd (omega arith)
-begun-told (begun n) v next e h =
+begun-told : (k : Known) (v : ℕ) → Ok (Begun v) ≡ step_reply k → (k ≡ begun (v - 128)) × (128 ≤ v)
+begun-told (whole n) v e = clash cc
+begun-told (begun n) v e =
     let f : v ≡ n + 128 = cc in
     let g : n ≡ v - 128 = omega arith in
-    (ap begun g, omega arith, cc)
-begun-told (broken c) v next e h = clash cc
+    (ap begun g, omega arith)
+begun-told (broken c) v e = clash cc
 
-broken-told : (k : Known) (c : Refusal) → Refused c ≡ step_reply k → k ≡ broken c
+broken-told : (k : Known) (c : Refusal) → Err c ≡ step_reply k → k ≡ broken c
 broken-told (whole n) c e = clash cc
 broken-told (begun n) c e = clash cc
 broken-told (broken d) c e = cc
@@ -71,12 +45,12 @@ Small p (whole n) = n < 16384
 Small p (begun v) = (v < 128) × (p ≡ 0)
 Small p (broken c) = Unit {0}
 
-small : (x p v : ℕ) → x < 256 → v < 128 → Small p (cut_step x p v)
-small x zero v h k = by-test (ltb x 128) (λ t. rw t (omega (arith, ltb-true x 128 t))) (λ t. rw t (omega arith, refl))
-small x (suc p) v h k =
+small : (x : ℕ) (first : Option ℕ) → x < 256 → IsFirstByte first → Small (place_of first) (cut_step x (place_of first) (beginning_of first))
+small x None h k = by-test (ltb x 128) (λ t. rw t (omega (arith, ltb-true x 128 t))) (λ t. rw t (omega arith, refl))
+small x (Some y) h k =
     by-test (eqb x 0 || leb 128 x)
     (λ t. rw t tt)
-    (λ t. rw t (omega (arith, leb-false 128 x (or-false (eqb x 0) (leb 128 x) t).1)))
+    (λ t. rw t (omega (arith, k.1, leb-false 128 x (or-false (eqb x 0) (leb 128 x) t).1)))
 
 -- The output: as many numbers as fit, and one more.
 stored_more : (xs out : List ℕ) (n x : ℕ) → length xs ≡ n → set (stored xs out) n x ≡ stored (xs ++ (x ∷ [])) out
@@ -103,109 +77,113 @@ stored_more xs out n x e =
     )
     (set_out (take (length out) xs) n x (omega (arith, length-take (length out) xs))))
 
--- The bytes before `at` have been read: n numbers have ended, and the next byte has this place in its number, which began with the byte `first`.
-pub record Cutting (s before out : List ℕ) (at n place first : ℕ) : Type 0 where
+-- whether a number is open, by its place
+place-begun : (first : Option ℕ) → is_some first ≡ true → 0 < place_of first
+place-begun None e = clash cc
+place-begun (Some x) e = omega arith
+
+place-whole : (first : Option ℕ) → is_some first ≡ false → place_of first ≡ 0
+place-whole None e = refl
+place-whole (Some x) e = clash cc
+
+-- The bytes before `at` have been read: n numbers have ended, and one has begun where a first byte is kept.
+pub record Cutting (s before out : List ℕ) (at n : ℕ) (first : Option ℕ) : Type 0 where
   pub within : at ≤ length s
   pub fewer : n ≤ at
   pub same : length out ≡ length before
-  pub low : (first < 256) × (0 < place → 128 ≤ first)
+  pub low : IsFirstByte first
   pub had : List ℕ
   pub count : length had ≡ n
-  pub known : scan (take at s) ≡ going had place (first - 128)
+  pub known : scan (take at s) ≡ going had (place_of first) (beginning_of first)
   pub kept : out ≡ stored had before
 
-pub cutting-start : (s before : List ℕ) → Cutting s before before 0 0 0 0
-cutting-start s before =
-    record { within = omega arith; fewer = omega arith; same = refl; low = (omega arith, λ q. omega arith); had = []; count = refl; known = refl; kept = rw take-nil }
-
-module _ {s before out : List ℕ} {at n place first : ℕ} (w : Cutting s before out at n place first) where
+module _ {s before out : List ℕ} {at n : ℕ} {first : Option ℕ} (w : Cutting s before out at n first) where
   module _ (h : at < length s) where
+    abbrev step : Known
+    step = cut_step (get_or s at 0) (place_of first) (beginning_of first)
+
     -- what is known after one byte more
-    further : (k : Known) → cut_step (get_or s at 0) place (first - 128) ≡ k → scan (take (at + 1) s) ≡ scanned w.had place k
-    further k e = scan-next s at h ∙ ap (scan_step (get_or s at 0)) w.known ∙ ap (scanned w.had place) e
+    further : (k : Known) → step ≡ k → scan (take (at + 1) s) ≡ scanned w.had (place_of first) k
+    further k e = scan-next s at h ∙ ap (scan_step (get_or s at 0)) w.known ∙ ap (scanned w.had (place_of first)) e
 
     -- a refusal decides over all
-    pub cutting-refused : (c : Refusal) → Refused c ≡ step_reply (cut_step (get_or s at 0) place (first - 128)) → CutInto s before (Refused c) out
+    pub cutting-refused : (c : Refusal) → Err c ≡ step_reply step → CutInto s before (Err c) out
     cutting-refused c e =
-        let f : cut s ≡ fault c = prefix-fault s (at + 1) c (further (broken c) (broken-told (cut_step (get_or s at 0) place (first - 128)) c e)) in
+        let f : cut s ≡ fault c = prefix-fault s (at + 1) c (further (broken c) (broken-told step c e)) in
         record { same = w.same; reply = rw f; output = λ xs g. clash cc }
 
-    module _ (value next : ℕ) (byte : get_or s at 0 < 256) (e : Number value next ≡ step_reply (cut_step (get_or s at 0) place (first - 128))) where
-      bounded : Small place (cut_step (get_or s at 0) place (first - 128))
-      bounded = small (get_or s at 0) place (first - 128) byte (omega (arith, w.low.0))
+    module _ (value : ℕ) (byte : get_or s at 0 < 256) where
+      bounded : Small (place_of first) step
+      bounded = small (get_or s at 0) first byte w.low
 
       -- a number has ended: it is below 16,384, and one more is kept and counted
-      module _ (z : next ≡ 0) where
-        ended : cut_step (get_or s at 0) place (first - 128) ≡ whole value
-        ended = whole-told (cut_step (get_or s at 0) place (first - 128)) value (ap (Number value) (sym z) ∙ e)
+      module _ (e : Ok (Whole value) ≡ step_reply step) where
+        ended : step ≡ whole value
+        ended = whole-told step value e
 
-        pub ended-small : value < 16384
-        ended-small = subst (Small place) ended bounded
-
-        pub cutting-ended : Cutting s before (set out n value) (at + 1) (n + 1) next 0
+        pub cutting-ended : Cutting s before (set out n value) (at + 1) (n + 1) None
         cutting-ended =
             record {
               within = omega arith;
               fewer = omega (arith, w.fewer);
               same = simp length-set w.same;
-              low = (omega arith, λ q. omega arith);
+              low = tt;
               had = w.had ++ (value ∷ []);
               count = omega (arith, length-append w.had (value ∷ []), w.count);
-              known = further (whole value) ended ∙ ap (λ p. going (w.had ++ (value ∷ [])) p 0) (sym z);
+              known = further (whole value) ended;
               kept = ap (λ o. set o n value) w.kept ∙ stored_more w.had before n value w.count;
             }
 
       -- a number goes on
-      pub cutting-open : 0 < next → Cutting s before out (at + 1) n next value
-      cutting-open k =
-          let told = begun-told (cut_step (get_or s at 0) place (first - 128)) value next e k in
-          let b = subst (Small place) told.0 bounded in
+      pub cutting-open : Ok (Begun value) ≡ step_reply step → Cutting s before out (at + 1) n (Some value)
+      cutting-open e =
+          let told = begun-told step value e in
+          let b = subst (Small (place_of first)) told.0 bounded in
           record {
             within = omega arith;
             fewer = omega (arith, w.fewer);
             same = w.same;
-            low = (omega (arith, b.0, told.1), λ q. told.1);
+            low = (told.1, omega (arith, b.0, told.1));
             had = w.had;
             count = w.count;
-            known = further (begun (value - 128)) told.0 ∙ ap (λ p. going w.had p (value - 128)) (omega (arith, b.1, told.2));
+            known = further (begun (value - 128)) told.0 ∙ ap (λ p. going w.had (suc p) (value - 128)) b.1;
             kept = w.kept;
           }
 
   -- No byte is left: a number is open ..
-  pub cutting-truncated : length s ≤ at → 0 < place → CutInto s before (Refused Truncated) out
+  pub cutting-truncated : length s ≤ at → is_some first ≡ true → CutInto s before (Err Truncated) out
   cutting-truncated h p =
-      let f : cut s ≡ fault Truncated = prefix-end s at h ∙ ap scan_end w.known ∙ open-end place p in
+      let f : cut s ≡ fault Truncated = prefix-end s at h ∙ ap scan_end w.known ∙ open-end (place_of first) (place-begun first p) in
       record { same = w.same; reply = rw f; output = λ xs g. clash cc }
     where
-      open-end : (p : ℕ) → 0 < p → scan_end (going w.had p (first - 128)) ≡ fault Truncated
+      open-end : (p : ℕ) → 0 < p → scan_end (going w.had p (beginning_of first)) ≡ fault Truncated
       open-end zero k = absurd (omega arith)
       open-end (suc p) k = refl
 
   -- .. or none is
-  pub cutting-end : length s ≤ at → place ≡ 0 → CutInto s before (Number n at) out
+  pub cutting-end : length s ≤ at → is_some first ≡ false → CutInto s before (Ok n) out
   cutting-end h p =
-      let e : at ≡ length s = omega (arith, w.within) in
-      let f : cut s ≡ done w.had = prefix-end s at h ∙ ap scan_end (w.known ∙ ap (λ q. going w.had q (first - 128)) p) in
+      let f : cut s ≡ done w.had = prefix-end s at h ∙ ap scan_end (w.known ∙ ap (λ q. going w.had q (beginning_of first)) (place-whole first p)) in
       record {
         same = w.same;
-        reply = rw (f, w.count, e);
+        reply = rw (f, w.count);
         output = λ xs g. let q : w.had ≡ xs = cc in w.kept ∙ ap (λ l. stored l before) q;
       }
 
 -- A slice that was cut into n numbers: these are they.
-pub numbers-cut : {s before after : List ℕ} {n e : ℕ} → CutInto s before (Number n e) after
+pub numbers-cut : {s before after : List ℕ} {n : ℕ} → CutInto s before (Ok n) after
     → (xs : List ℕ) × (cut s ≡ done xs) × (length xs ≡ n) × (after ≡ stored xs before)
-numbers-cut {s} {before} {after} {n} {e} r = found (cut s) refl r.reply
+numbers-cut {s} {before} {after} {n} r = found (cut s) refl r.reply
   where
-    found : (o : Result (List ℕ)) → cut s ≡ o → Number n e ≡ cut_reply (length s) o
+    found : (o : Result (List ℕ)) → cut s ≡ o → Ok n ≡ cut_reply o
         → (xs : List ℕ) × (cut s ≡ done xs) × (length xs ≡ n) × (after ≡ stored xs before)
     found (done xs) p q = (xs, p, cc, r.output xs p)
     found (fault c) p q = clash cc
 
 -- A slice that was refused: its cut has that cause.
-pub refusal-cut : {s before after : List ℕ} {c : Refusal} → CutInto s before (Refused c) after → cut s ≡ fault c
+pub refusal-cut : {s before after : List ℕ} {c : Refusal} → CutInto s before (Err c) after → cut s ≡ fault c
 refusal-cut {s} {before} {after} {c} r = found (cut s) refl r.reply
   where
-    found : (o : Result (List ℕ)) → cut s ≡ o → Refused c ≡ cut_reply (length s) o → cut s ≡ fault c
+    found : (o : Result (List ℕ)) → cut s ≡ o → Err c ≡ cut_reply o → cut s ≡ fault c
     found (done xs) p q = clash cc
     found (fault d) p q = let k : c ≡ d = cc in p ∙ ap fault (sym k)

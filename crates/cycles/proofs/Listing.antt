@@ -8,7 +8,7 @@ use lib.Dec.{eqb}
 use lib.ListN.{length, get_or, set, length-set}
 use borrow.Author.Count.{below_more}
 use borrow.Author.Tests.{eq-eqb, ne_eqb}
-use Rattle.cycles.specs.Queue.{among, Distinct, Queue}
+use Rattle.cycles.specs.Queue.{among, Distinct}
 use Rattle.cycles.proofs.Queue.{among-kept, among-joined, distinct-kept, distinct-joined}
 
 -- the first len places hold the points of degree 0 below x
@@ -19,17 +19,6 @@ pub record Listing (degrees queue : List ℕ) (x len : ℕ) : Type 0 where
   pub distinct : Distinct queue len (length degrees)
   pub done : (y : ℕ) → y < x → among queue len y ≡ eqb (get_or degrees y 0) 0
   pub rest : (y : ℕ) → x ≤ y → among queue len y ≡ false
-
-pub listing_start : (degrees queue : List ℕ) → length queue ≡ length degrees → Listing degrees queue 0 0
-listing_start degrees queue e =
-    record {
-      same = e;
-      passed = omega arith;
-      fewer = omega arith;
-      distinct = record { points = λ j b. absurd (omega arith); fresh = λ j b. absurd (omega arith) };
-      done = λ y b. absurd (omega arith);
-      rest = λ y b. refl;
-    }
 
 module _ {degrees queue : List ℕ} {x len : ℕ} (l : Listing degrees queue x len) where
   module _ (h : x < length degrees) where
@@ -67,6 +56,3 @@ module _ {degrees queue : List ℕ} {x len : ℕ} (l : Listing degrees queue x l
               (now x ∙ l.rest x (omega arith) ∙ sym (ne_eqb (get_or degrees x 0) 0 other));
           rest = λ y b. now y ∙ l.rest y (omega arith);
         }
-
-  pub listing-end : length degrees ≤ x → Queue degrees queue len
-  listing-end h = record { same = l.same; distinct = l.distinct; zeros = λ y b. l.done y (omega arith) }

@@ -4,8 +4,7 @@ use mathlib.Core.Bool.{true, false}
 use mathlib.Core.List.{List, ◌++◌}
 use Prim.Native.Nat.{ℕ, ◌≤◌, ◌<◌}
 use native.Mathlib.Omega.{arith}
-use lib.ListN.{length, take, get_or, length-append}
-use lib.Seq.{take_at}
+use lib.ListN.{length, get_or, length-append}
 use Rattle.lists.proofs.Tests.{by-test}
 use Rattle.patterns.specs.Table.{image, is_table, on_cycle}
 use Rattle.cycles.specs.Marks.{Marked}
@@ -33,6 +32,3 @@ module _ {f marks : List ℕ} where
   -- marks in the first places of an array
   pub marks-within : Marked f marks → (d : List ℕ) → length f ≤ length (marks ++ d)
   marks-within m d = rw length-append (omega (arith, m.same))
-
-  pub marks-back : Marked f marks → (d : List ℕ) → Marked f (take (length f) (marks ++ d))
-  marks-back m d = rw (take_at marks d (length f) m.same) m

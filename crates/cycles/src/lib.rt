@@ -2,24 +2,22 @@
 #![tactic(auto)]
 
 ghost use Rattle.std.specs.Prelude.{◌≡◌, ◌≤◌, length};
-ghost use Rattle.cycles.specs.Marks.{MarksAsked, Marked};
+ghost use Rattle.cycles.specs.Marks.{Marked};
 ghost use Rattle.cycles.specs.Queue.{Queue};
 ghost use Rattle.cycles.specs.Pruning.{InDegrees, Pruned, LeftMarked};
 
-use lists::set_all;
 use patterns::points_room;
+use tables::Table;
 
 // Counts how many points go to each point.
-fn count_in_degrees(f: &[u8], degrees: &mut [u8])
-    requires { MarksAsked f.now degrees.old }
-    ensures { InDegrees f.now degrees.new }
+fn count_in_degrees(table: Table, degrees: &mut [u8])
+    requires { length degrees.old ≡ length table.images.now }
+    ensures { InDegrees table.entry.images.now degrees.new }
 {
-    set_all(degrees, 0);
-    let mut x = 0;
-    while x < f.len() {
-        let y = f[x] as usize;
-        degrees[y] += 1;
-        x += 1;
+    let f = table.images;
+    degrees.fill(0);
+    for y in f {
+        degrees[usize::from(*y)] += 1;
     }
 }
 
@@ -29,13 +27,11 @@ fn list_leaves(degrees: &[u8], queue: &mut [u8]) -> usize
     ensures { Queue degrees.now queue.new result }
 {
     let mut len = 0;
-    let mut x = 0;
-    while x < degrees.len() {
+    for (x, degree) in degrees.iter().enumerate() {
         queue[len] = x as u8;
-        if degrees[x] == 0 {
+        if *degree == 0 {
             len += 1;
         }
-        x += 1;
     }
     len
 }
@@ -47,6 +43,7 @@ fn take_off(f: &[u8], degrees: &mut [u8], queue: &mut [u8], leaves: usize)
 {
     let mut len = leaves;
     let mut i = 0;
+    // No `for`: the queue grows while it is read, so that a range to its end would still have to ask at each turn where the end is by now.
     while i < len {
         let x = queue[i] as usize;
         let y = f[x] as usize;
@@ -72,25 +69,19 @@ fn prune(f: &[u8], degrees: &mut [u8], queue: &mut [u8])
 fn mark_left(marks: &mut [u8])
     ensures { LeftMarked marks.old marks.new }
 {
-    let mut x = 0;
-    while x < marks.len() {
-        if marks[x] == 0 {
-            marks[x] = 0;
-        } else {
-            marks[x] = 1;
-        }
-        x += 1;
+    for mark in marks.iter_mut() {
+        *mark = u8::from(*mark != 0);
     }
 }
 
 // `marks` tells the points on cycles, 1, from the others, 0. While points are taken off it holds the degrees.
-pub fn mark_cycles(f: &[u8], marks: &mut [u8])
-    requires { MarksAsked f.now marks.old }
-    ensures { Marked f.now marks.new }
+pub fn mark_cycles(table: Table, marks: &mut [u8])
+    requires { length marks.old ≡ length table.images.now }
+    ensures { Marked table.entry.images.now marks.new }
 {
-    let n = f.len();
+    let n = table.images.len();
     let mut queue = points_room();
-    count_in_degrees(f, marks);
-    prune(f, marks, &mut queue[..n]);
+    count_in_degrees(table, marks);
+    prune(table.images, marks, &mut queue[..n]);
     mark_left(marks);
 }

@@ -1,4 +1,5 @@
 -- What the reply of "map of a code" says to an entry that goes on with the map, which it had written into 200 places.
+use Rattle.std.specs.Prelude.{Result as Reply, Ok, Err}
 use mathlib.Core.Path.{◌≡◌, refl, ap, sym, ◌∙◌, subst}
 use mathlib.Core.Bool.{true}
 use mathlib.Core.List.{List}
@@ -8,8 +9,6 @@ use lib.ListN.{length, take}
 use borrow.Author.Tests.{le-leb}
 use Rattle.lists.proofs.Tests.{clash}
 use Rattle.patterns.specs.declared.Refusal.{Refusal}
-use Rattle.patterns.specs.declared.reply.Reply.{Reply}
-use Rattle.patterns.specs.declared.reply.Reply.TheVariants.{Length, Refused}
 use Rattle.patterns.specs.System.{System, weight}
 use Rattle.patterns.specs.Table.{is_table}
 use Rattle.patterns.specs.MapOf.{map_of}
@@ -29,9 +28,9 @@ pub record Decoded (b after : List ℕ) (n : ℕ) : Type 0 where
   pub small : n ≤ 200
   pub map_is : take n after ≡ map_of system
 
-module _ (b : List ℕ) {r : Reply} {before after : List ℕ} (p : Replied (map_of_code b) before (answer_of r) after) where
+module _ (b : List ℕ) {r : Reply ℕ Refusal} {before after : List ℕ} (p : Replied (map_of_code b) before (answer_of r) after) where
   -- the map was written
-  pub map-decoded : {n : ℕ} → r ≡ Length n → Decoded b after n
+  pub map-decoded : {n : ℕ} → r ≡ Ok n → Decoded b after n
   unfolding map_of_code
   map-decoded {n} e = of (accepted b) refl (rw e at p)
     where
@@ -45,7 +44,7 @@ module _ (b : List ℕ) {r : Reply} {before after : List ℕ} (p : Replied (map_
       of (fault c) q h = let y = h.reply in clash cc
 
   -- the code was refused, since 200 places hold every map: what goes on with the system is refused with that cause
-  pub decoded-refused : length before ≡ 200 → {c : Refusal} → r ≡ Refused c → (f : System → Outcome ℕ) (out : List ℕ)
+  pub decoded-refused : length before ≡ 200 → {c : Refusal} → r ≡ Err c → (f : System → Outcome ℕ) (out : List ℕ)
       → Replied (outcome (accepted b) f) out (refused (number_of c)) out
   unfolding map_of_code
   decoded-refused room {c} e f out = of (accepted b) refl (rw e at p.reply)

@@ -1,14 +1,12 @@
 -- The map of a system in memory.
-use mathlib.Core.Path.{◌≡◌, ap, sym, ◌∙◌, subst}
+use mathlib.Core.Path.{◌≡◌, ap, sym, ◌∙◌}
 use mathlib.Core.List.{List, ◌++◌}
 use Prim.Native.Nat.{ℕ, ◌≤◌}
 use native.Mathlib.Omega.{arith}
 use lib.ListN.{length, take, length-append}
-use lib.Seq.{take_at, length-take-le}
+use lib.Seq.{length-take-le}
 use Rattle.patterns.specs.System.{System}
 use Rattle.patterns.specs.MapOf.{map_of}
-use Rattle.patterns.specs.Replies.{Answer}
-use Rattle.patterns.specs.Entry.{gives, Replied}
 use Rattle.memory.specs.Memory.{Holds, HeldSystem}
 use Rattle.memory.proofs.Parts.{held-points}
 use Rattle.mapping.specs.Images.{MapAsked}
@@ -28,8 +26,3 @@ module _ {sizes trees : List ℕ} (h : HeldSystem sizes trees) where
 
     pub table-within : length trees ≤ length (table ++ rest)
     table-within = omega (arith, length-append table rest, table-length)
-
-    pub map-put : {before after : List ℕ} {a : Answer} → Replied (gives (take (length trees) (table ++ rest))) before a after
-        → (S : System) → Holds S sizes trees → Replied (gives (map_of S)) before a after
-    map-put {before} {after} {a} p S k =
-        subst (λ l. Replied (gives l) before a after) (take_at table rest (length trees) table-length ∙ w S k) p

@@ -5,23 +5,22 @@ ghost use Rattle.patterns.specs.System.{System};
 ghost use Rattle.patterns.specs.MapOf.{map_of};
 ghost use Rattle.patterns.specs.Entry.{Replied, Outcome.gives, map_of_code};
 ghost use Rattle.patterns.specs.Replies.{answer_of};
-ghost use Rattle.memory.specs.Memory.{Holds, HeldSystem};
+ghost use Rattle.memory.specs.Memory.{Holds};
 
 use acceptance::accept_into;
 use mapping::map_of;
 use patterns::{Reply, points_room};
-use reading::Accepted;
+use writing::StoredSystem;
 use written::put;
 
 // Puts the map of the system into `out`.
-fn put_map(sizes: &[u8], trees: &[u8], out: &mut [u8]) -> Reply
-    requires { HeldSystem sizes.now trees.now }
-    ensures { (S : System) → Holds S sizes.now trees.now
+fn put_map(system: StoredSystem, out: &mut [u8]) -> Reply
+    ensures { (S : System) → Holds S system.entry.sizes.now system.entry.trees.now
         → Replied (gives (map_of S)) out.old (answer_of result) out.new }
 {
-    let n = trees.len();
+    let n = system.trees.len();
     let mut table = points_room();
-    map_of(sizes, trees, &mut table[..n]);
+    map_of(system.sizes, system.trees, &mut table[..n]);
     put(&table[..n], out)
 }
 
@@ -31,8 +30,10 @@ pub fn map_of_code(code: &[u8], out: &mut [u8]) -> Reply
 {
     let mut sizes = points_room();
     let mut trees = points_room();
-    match accept_into(code, &mut sizes, &mut trees) {
-        Accepted::Refused(cause) => Reply::Refused(cause),
-        Accepted::System(m, n) => put_map(&sizes[..m], &trees[..n], out),
-    }
+    let accepted = accept_into(code, &mut sizes, &mut trees)?;
+    let system = StoredSystem {
+        sizes: &sizes[..accepted.components],
+        trees: &trees[..accepted.points],
+    };
+    put_map(system, out)
 }

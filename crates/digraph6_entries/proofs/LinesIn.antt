@@ -4,8 +4,7 @@ use mathlib.Core.List.{List}
 use Prim.Native.Nat.{ℕ}
 use lib.ListN.{take}
 use Rattle.patterns.specs.declared.Refusal.{Refusal}
-use Rattle.patterns.specs.declared.reply.Reply.{Reply}
-use Rattle.patterns.specs.declared.reply.Reply.TheVariants.{Length, Refused}
+use Rattle.std.specs.Prelude.{Result as Reply, Ok, Err}
 use Rattle.patterns.specs.Reading.{done, fault}
 use Rattle.patterns.specs.Replies.{Answer, refused, number_of}
 use Rattle.patterns.specs.Entry.{Replied, code_of_map}
@@ -15,14 +14,14 @@ use Rattle.line_theory.proofs.OneLine.{line-table}
 use Rattle.line_theory.proofs.CodesAsLines.{line_code}
 use Rattle.digraph6_reading.specs.LineResults.{line_result, LineRead}
 
-module _ (l : List ℕ) {r : Reply} {table : List ℕ} (w : LineRead (read_line l) r table) where
-  pub line-in-refused : {c : Refusal} → r ≡ Refused c → (out : List ℕ) → Replied (code_of_digraph6 l) out (refused (number_of c)) out
+module _ (l : List ℕ) {r : Reply ℕ Refusal} {table : List ℕ} (w : LineRead (read_line l) r table) where
+  pub line-in-refused : {c : Refusal} → r ≡ Err c → (out : List ℕ) → Replied (code_of_digraph6 l) out (refused (number_of c)) out
   unfolding code_of_digraph6
   line-in-refused {c} e out =
       let q : read_line l ≡ fault c = sym w.result ∙ ap (λ r. line_result r table) e in
       outcome-refused _ out c q
 
-  module _ {n : ℕ} (e : r ≡ Length n) where
+  module _ {n : ℕ} (e : r ≡ Ok n) where
     line-map : read_line l ≡ done (take n table)
     line-map = sym w.result ∙ ap (λ r. line_result r table) e
 

@@ -10,16 +10,16 @@ use decoding_entry::map_of_code;
 use digraph6_reading::read_line;
 use digraph6_writing::put_line;
 use patterns::{Reply, points_room};
+use tables::Table;
 
 // Writes the line of the map of `code`.
 pub fn digraph6_of_code(code: &[u8], out: &mut [u8]) -> Reply
     ensures { Replied (digraph6_of_code code.now) out.old (answer_of result) out.new }
 {
-    let mut table = points_room();
-    match map_of_code(code, &mut table) {
-        Reply::Refused(code_cause) => Reply::Refused(code_cause),
-        Reply::Length(n) => put_line(&table[..n], out),
-    }
+    let mut room = points_room();
+    let n = map_of_code(code, &mut room)?;
+    let table = Table { images: &room[..n] };
+    put_line(table, out)
 }
 
 // Writes the code of the map that `line` shows.
@@ -27,8 +27,6 @@ pub fn code_of_digraph6(line: &[u8], out: &mut [u8]) -> Reply
     ensures { Replied (code_of_digraph6 line.now) out.old (answer_of result) out.new }
 {
     let mut table = points_room();
-    match read_line(line, &mut table) {
-        Reply::Refused(line_cause) => Reply::Refused(line_cause),
-        Reply::Length(n) => code_of_map(&table[..n], out),
-    }
+    let n = read_line(line, &mut table)?;
+    code_of_map(&table[..n], out)
 }

@@ -1,17 +1,16 @@
 -- The bytes of a matrix of at most 200 points: how many they and their bits are.
 use mathlib.Core.Path.{◌≡◌}
-use mathlib.Core.Bool.{true}
 use mathlib.Core.List.{List}
 use Prim.Native.Nat.{ℕ, ◌*◌, ◌≤◌}
 use native.Mathlib.Nat.{mul-le-mul}
 use native.Mathlib.Omega.{arith}
 use lib.ListN.{length}
-use Rattle.lists.specs.Select.{each, gather}
-use Rattle.patterns.specs.Digraph6.{in_format, bits_of, body_length}
+use Rattle.lists.specs.Select.{gather}
+use Rattle.patterns.specs.Digraph6.{bits_of, body_length}
 use Rattle.line_theory.proofs.Packing.{unpacked-length}
 use Rattle.line_theory.proofs.Lines.{body-holds}
-use Rattle.line_theory.proofs.OneLine.{body-length, body-format}
-use Rattle.digraph6_reading.specs.LineResults.{BitsAsked, MatrixAsked}
+use Rattle.line_theory.proofs.OneLine.{body-length}
+use Rattle.digraph6_reading.specs.LineResults.{MatrixAsked}
 
 pub square-small : {n : ℕ} → n ≤ 200 → n * n ≤ 40000
 square-small h = mul-le-mul h h
@@ -23,12 +22,6 @@ module _ {n : ℕ} (body : List ℕ) (few : n ≤ 200) (h : length body ≡ body
   pub matrix-within : n * n ≤ length body * 6
   matrix-within = omega (arith, body-holds n)
 
-  pub bits-asked : each in_format body ≡ true → (p : ℕ) → p ≤ length body * 6 → BitsAsked body p
-  bits-asked e p k = record { format = e; small = body-small; from = k }
-
 module _ {body table : List ℕ} (a : MatrixAsked body table) where
-  pub matrix-asked : (p : ℕ) → p ≤ length body * 6 → BitsAsked body p
-  matrix-asked = bits-asked body a.small (body-length (length table) body a.is_body) (body-format (length table) body a.is_body)
-
   pub matrix-whole : length table * length table ≤ length (gather bits_of body)
   matrix-whole = omega (arith, matrix-within body a.small (body-length (length table) body a.is_body), unpacked-length body)

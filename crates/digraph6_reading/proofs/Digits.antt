@@ -1,10 +1,10 @@
 -- The number that digits of six bits make, digit after digit; of at most six it has 36 bits.
-use mathlib.Core.Path.{◌≡◌, refl, sym, ◌∙◌, subst}
+use mathlib.Core.Path.{◌≡◌, refl, ◌∙◌, subst}
 use mathlib.Core.Bool.{true}
 use mathlib.Core.List.{List, [], ◌∷◌}
 use Prim.Native.Nat.{ℕ, zero, suc, ◌+◌, ◌-◌, ◌*◌, ◌≤◌, ◌<◌}
 use native.Mathlib.Omega.{arith}
-use lib.ListN.{length, get_or, drop, drop_of_length-le}
+use lib.ListN.{length, get_or, drop}
 use Rattle.lists.specs.Select.{each}
 use Rattle.lists.proofs.Tests.{each_member}
 use Rattle.lists.proofs.Places.{in-index, drop-one}
@@ -24,34 +24,15 @@ power-next (suc (suc (suc (suc zero)))) h = refl
 power-next (suc (suc (suc (suc (suc zero))))) h = refl
 power-next (suc (suc (suc (suc (suc (suc i)))))) h = absurd (omega arith)
 
-power-most : (i : ℕ) → i ≤ 6 → power_of i ≤ 68719476736
-power-most zero h = omega arith
-power-most (suc zero) h = omega arith
-power-most (suc (suc zero)) h = omega arith
-power-most (suc (suc (suc zero))) h = omega arith
-power-most (suc (suc (suc (suc zero)))) h = omega arith
-power-most (suc (suc (suc (suc (suc zero))))) h = omega arith
-power-most (suc (suc (suc (suc (suc (suc zero)))))) h = omega arith
-power-most (suc (suc (suc (suc (suc (suc (suc i))))))) h = absurd (omega arith)
-
 -- the first i digits make the number a
 pub record Valuing (digits : List ℕ) (a i : ℕ) : Type 0 where
   pub within : i ≤ length digits
   pub small : a < power_of i
   pub rest : size_value 0 digits ≡ size_value a (drop i digits)
 
-pub valuing-start : (digits : List ℕ) → Valuing digits 0 0
-valuing-start digits = record { within = omega arith; small = omega arith; rest = refl }
-
 module _ {digits : List ℕ} {a i : ℕ} (v : Valuing digits a i) (format : each in_format digits ≡ true) (few : length digits ≤ 6) where
   pub digit-format : i < length digits → (63 ≤ get_or digits i 0) × (get_or digits i 0 ≤ 126)
   digit-format h = in-format (get_or digits i 0) (each_member in_format format (in-index digits i 0 h))
-
-  pub value-fits : i < length digits → a * 64 + (get_or digits i 0 - 63) < 68719476736
-  value-fits h =
-      let d = digit-format h in
-      let k = v.small in
-      omega (arith, d.0, d.1, power-next i (omega arith), power-most (suc i) (omega arith))
 
   pub valuing-next : i < length digits → Valuing digits (a * 64 + (get_or digits i 0 - 63)) (i + 1)
   valuing-next h =
@@ -64,6 +45,3 @@ module _ {digits : List ℕ} {a i : ℕ} (v : Valuing digits a i) (format : each
         small = subst (λ m. a * 64 + (get_or digits i 0 - 63) < power_of m) e small;
         rest = v.rest ∙ rw (drop-one 0 digits i h);
       }
-
-pub valuing-end : {digits : List ℕ} {a i : ℕ} → Valuing digits a i → length digits ≤ i → a ≡ size_value 0 digits
-valuing-end {digits} {a} {i} v h = sym (v.rest ∙ rw (drop_of_length-le digits {i = i} h))

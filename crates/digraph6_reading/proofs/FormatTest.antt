@@ -1,37 +1,26 @@
--- Testing byte after byte whether all are bytes of the format.
-use mathlib.Core.Path.{◌≡◌, refl, ◌∙◌}
-use mathlib.Core.Bool.{true, false}
+-- Bytes that are all bytes of the format.
+use mathlib.Core.Path.{◌≡◌}
+use mathlib.Core.Bool.{Bool, true}
 use mathlib.Core.List.{List}
-use Prim.Native.Nat.{ℕ, ◌+◌, ◌≤◌, ◌<◌}
-use native.Mathlib.Omega.{arith}
-use lib.ListN.{length, get_or, drop, drop_of_length-le}
-use borrow.Author.Tests.{le-leb, lt-leb}
+use Prim.Native.Nat.{ℕ, ◌≤◌, ◌<◌}
+use lib.ListN.{length, get_or}
+use borrow.Author.Tests.{le-leb}
+use Rattle.std.proofs.Common.{IsTrue, ◌↔◌}
 use Rattle.lists.specs.Select.{each}
-use Rattle.lists.proofs.Places.{drop-one}
+use Rattle.lists.proofs.Tests.{same_tests, each-true, each_member}
+use Rattle.lists.proofs.Places.{in-index, index_of}
 use Rattle.patterns.specs.Digraph6.{in_format}
+use Rattle.line_theory.proofs.Packing.{in-format}
 
--- the first i bytes are
-pub record Testing (s : List ℕ) (i : ℕ) : Type 0 where
-  pub within : i ≤ length s
-  pub rest : each in_format s ≡ each in_format (drop i s)
+within-format : (x : ℕ) → (63 ≤ x) × (x ≤ 126) → in_format x ≡ true
+within-format x h =
+    let low : 63 ≤ x = h.0 in
+    let high : x ≤ 126 = h.1 in
+    rw (le-leb 63 x low, le-leb x 126 high)
 
-pub testing-start : (s : List ℕ) → Testing s 0
-testing-start s = record { within = omega arith; rest = refl }
-
-module _ {s : List ℕ} {i : ℕ} (t : Testing s i) where
-  pub testing-next : i < length s → 63 ≤ get_or s i 0 → get_or s i 0 ≤ 126 → Testing s (i + 1)
-  testing-next h low high =
-      record {
-        within = omega arith;
-        rest = t.rest ∙ rw (drop-one 0 s i h, le-leb 63 (get_or s i 0) low, le-leb (get_or s i 0) 126 high);
-      }
-
-  -- a byte below or above
-  pub testing-low : i < length s → get_or s i 0 < 63 → each in_format s ≡ false
-  testing-low h low = t.rest ∙ rw (drop-one 0 s i h, lt-leb 63 (get_or s i 0) low)
-
-  pub testing-high : i < length s → 63 ≤ get_or s i 0 → 126 < get_or s i 0 → each in_format s ≡ false
-  testing-high h low high = t.rest ∙ rw (drop-one 0 s i h, le-leb 63 (get_or s i 0) low, lt-leb (get_or s i 0) 126 high)
-
-  pub testing-end : length s ≤ i → each in_format s ≡ true
-  testing-end h = t.rest ∙ rw (drop_of_length-le s {i = i} h)
+-- a test whether the byte at each place is
+pub all-format : (s : List ℕ) (b : Bool) → (IsTrue b ↔ ((k : ℕ) → k < length s → (63 ≤ get_or s k 0) × (get_or s k 0 ≤ 126))) → b ≡ each in_format s
+all-format s b t =
+    same_tests b (each in_format s)
+    (λ e. each-true in_format s (λ x m. let i = index_of 0 m in let same : get_or s i.0 0 ≡ x = i.2 in rw (← same) (within-format (get_or s i.0 0) (t.0 e i.0 i.1))))
+    (λ e. t.1 (λ k h. in-format (get_or s k 0) (each_member in_format e (in-index s k 0 h))))

@@ -12,24 +12,17 @@ use Rattle.lists.specs.Select.{each, gather}
 use Rattle.lists.proofs.Tests.{clash}
 use Rattle.patterns.specs.declared.Refusal.{Refusal}
 use Rattle.patterns.specs.declared.Refusal.TheVariants.{LineForm, OutDegree}
-use Rattle.patterns.specs.declared.reply.Reply.{Reply}
-use Rattle.patterns.specs.declared.reply.Reply.TheVariants.{Length, Refused}
+use Rattle.std.specs.Prelude.{Result as Reply, Ok, Err}
 use Rattle.patterns.specs.Reading.{Result, done, fault, and_then}
 use Rattle.patterns.specs.Digraph6.{in_format, bits_of, body_length, is_line_body, read_count, read_matrix, read_line_body, read_line}
 use Rattle.line_theory.proofs.Packing.{unpacked-length}
 use Rattle.line_theory.proofs.Lines.{body-holds}
-use Rattle.digraph6_reading.specs.LineResults.{FirstOne, MatrixAsked, matrix_result, LineRead}
+use Rattle.digraph6_reading.specs.LineResults.{FirstOne, matrix_result, LineRead}
 use Rattle.digraph6_reading.proofs.FirstOnes.{all-zero}
 
 -- the bytes of a matrix of n points: their number, each of them, and the padding
 module _ (n : ℕ) (body : List ℕ) where
-  pub body-count : (length body ≡ body_length n → ⊥) → false ≡ is_line_body n body
-  body-count h = rw (ne_eqb (length body) (body_length n) h)
-
   module _ (h : length body ≡ body_length n) where
-    pub body-form : each in_format body ≡ false → false ≡ is_line_body n body
-    body-form e = rw (eq-eqb (length body) (body_length n) h, e)
-
     pub body-padding : each in_format body ≡ true → {q : ℕ} → FirstOne (gather bits_of body) (n * n) q → eqb q (6 * length body) ≡ is_line_body n body
     body-padding e {q} w =
         let all : length (gather bits_of body) ≡ 6 * length body = omega (arith, unpacked-length body) in
@@ -37,7 +30,7 @@ module _ (n : ℕ) (body : List ℕ) where
         ap (eqb q) (sym all) ∙ clear ∙ rw (eq-eqb (length body) (body_length n) h, e)
 
 -- a refusal
-pub line_refused : {found : Result (List ℕ)} (c : Refusal) (table : List ℕ) → found ≡ fault c → LineRead found (Refused c) table
+pub line_refused : {found : Result (List ℕ)} (c : Refusal) (table : List ℕ) → found ≡ fault c → LineRead found (Err c) table
 line_refused c table e = record { result = sym e; room = λ n h. clash cc }
 
 module _ (n : ℕ) (body : List ℕ) where
@@ -46,9 +39,6 @@ module _ (n : ℕ) (body : List ℕ) where
   body_refused e = rw e
 
   module _ (e : is_line_body n body ≡ true) where
-    pub matrix-ready : (places : List ℕ) → length places ≡ n → n ≤ 200 → MatrixAsked body places
-    matrix-ready places count small = record { small = omega arith; is_body = ap (λ k. is_line_body k body) count ∙ e }
-
     -- the rows were read into k places
     module _ {k : ℕ} (count : k ≡ n) (table : List ℕ) (passed : Bool) (m : matrix_result passed table ≡ read_matrix k k (gather bits_of body)) where
       rows_are : read_line_body n body ≡ matrix_result passed table
@@ -58,7 +48,7 @@ module _ (n : ℕ) (body : List ℕ) where
       pub rows-refused : passed ≡ false → read_line_body n body ≡ fault OutDegree
       rows-refused f = rows_are ∙ ap (λ b. matrix_result b table) f
 
-      pub rows-read : passed ≡ true → length table ≡ k → n ≤ 200 → (rest : List ℕ) → LineRead (read_line_body n body) (Length n) (table ++ rest)
+      pub rows-read : passed ≡ true → length table ≡ k → n ≤ 200 → (rest : List ℕ) → LineRead (read_line_body n body) (Ok n) (table ++ rest)
       rows-read t same small rest =
           record {
             result = ap done (take_at table rest n (same ∙ count)) ∙ sym (rows_are ∙ ap (λ b. matrix_result b table) t);
@@ -80,7 +70,7 @@ module _ (s : List ℕ) where
   pub size-refused : {c : Refusal} → fault c ≡ read_count s → read_sized s ≡ fault c
   size-refused e = rw (← e)
 
-  pub size-read : {n used : ℕ} {r : Reply} {table : List ℕ} → done (n, used) ≡ read_count s → LineRead (read_line_body n (part_from used s)) r table
+  pub size-read : {n used : ℕ} {r : Reply ℕ Refusal} {table : List ℕ} → done (n, used) ≡ read_count s → LineRead (read_line_body n (part_from used s)) r table
       → LineRead (read_sized s) r table
   size-read {n} {used} {r} {table} e w = rw (← e) (subst (λ body. LineRead (read_line_body n body) r table) (part-all used s) w)
 
@@ -94,7 +84,7 @@ pub marked-some : (l : List ℕ) (k : ℕ) → 0 < k → get_or l 0 0 ≡ k → 
 marked-some [] k p h = absurd (omega arith)
 marked-some (x ∷ s) k p h = omega arith
 
-pub marked : (l : List ℕ) {r : Reply} {table : List ℕ} → get_or l 0 0 ≡ 38 → LineRead (read_sized (part_from 1 l)) r table → LineRead (read_line l) r table
+pub marked : (l : List ℕ) {r : Reply ℕ Refusal} {table : List ℕ} → get_or l 0 0 ≡ 38 → LineRead (read_sized (part_from 1 l)) r table → LineRead (read_line l) r table
 unfolding read_line
 marked [] h w = absurd (omega arith)
 marked (x ∷ s) {r} {table} h w = rw (eq-eqb x 38 h) (subst (λ m. LineRead (read_sized m) r table) (part-all 1 (x ∷ s)) w)

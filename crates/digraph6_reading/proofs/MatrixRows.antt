@@ -115,9 +115,6 @@ module _ {n : ℕ} {bits table : List ℕ} {one i : ℕ} (w : RowsRead n bits ta
     pub image-below : one - i * n < n
     image-below = let f = here in omega arith
 
-    pub one-within : one < length bits
-    one-within = omega (arith, row_within)
-
     module _ {another : ℕ} (v : FirstOne bits (one + 1) another) where
       -- there is a second one in it
       pub rows-second : another < i * n + n → fault OutDegree ≡ read_matrix n n bits

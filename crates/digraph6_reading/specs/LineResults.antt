@@ -1,17 +1,15 @@
 -- What the steps of reading a line answer, as results, and what they ask for.
-use Rattle.std.specs.Prelude.{◌≡◌, Bool, true, cond, List, ℕ, ◌*◌, ◌≤◌, ◌<◌, length, get_or, take}
+use Rattle.std.specs.Prelude.{◌≡◌, Bool, true, cond, List, ℕ, ◌*◌, ◌≤◌, ◌<◌, length, get_or, take, Result as Reply, Ok, Err}
 use Rattle.lists.specs.Select.{each}
+use Rattle.patterns.specs.declared.Refusal.{Refusal}
 use Rattle.patterns.specs.declared.Refusal.TheVariants.{OutDegree}
-use Rattle.patterns.specs.declared.reply.Reply.{Reply}
-use Rattle.patterns.specs.declared.reply.Reply.TheVariants.{Length, Refused}
 use Rattle.patterns.specs.Reading.{Result, done, fault}
 use Rattle.patterns.specs.Digraph6.{in_format, is_line_body}
 use Rattle.digraph6_reading.specs.declared.sizes.Size.{Size}
-use Rattle.digraph6_reading.specs.declared.sizes.Size.TheVariants.{Read, Refused as NoSize}
 
-abbrev pub size_result : Size → Result (ℕ × ℕ)
-size_result (Read n used) = done (n, used)
-size_result (NoSize c) = fault c
+abbrev pub size_result : Reply Size Refusal → Result (ℕ × ℕ)
+size_result (Ok size) = done (size.points, size.used)
+size_result (Err c) = fault c
 
 -- bytes of the format, no more than a matrix of 200 points has, and a place of their bits
 pub record BitsAsked (body : List ℕ) (p : ℕ) : Type 0 where
@@ -36,11 +34,11 @@ abbrev pub matrix_result : Bool → List ℕ → Result (List ℕ)
 matrix_result passed table = cond passed (done table) (fault OutDegree)
 
 -- the map in the first places of a table
-abbrev pub line_result : Reply → List ℕ → Result (List ℕ)
-line_result (Length n) table = done (take n table)
-line_result (Refused c) table = fault c
+abbrev pub line_result : Reply ℕ Refusal → List ℕ → Result (List ℕ)
+line_result (Ok n) table = done (take n table)
+line_result (Err c) table = fault c
 
 -- a line was read into a table of 200 places
-pub record LineRead (found : Result (List ℕ)) (r : Reply) (table : List ℕ) : Type 0 where
+pub record LineRead (found : Result (List ℕ)) (r : Reply ℕ Refusal) (table : List ℕ) : Type 0 where
   pub result : line_result r table ≡ found
-  pub room : (n : ℕ) → r ≡ Length n → n ≤ 200
+  pub room : (n : ℕ) → r ≡ Ok n → n ≤ 200

@@ -22,12 +22,10 @@ fn first_in(x: u8, j: usize) -> usize
     if x == 63 {
         return 6;
     }
-    let mut i = j;
-    while i < 6 {
+    for i in j..6 {
         if bit(x, i) == 1 {
             return i;
         }
-        i += 1;
     }
     6
 }
@@ -37,14 +35,12 @@ pub fn next_one(body: &[u8], p: usize) -> usize
     requires { BitsAsked body.now p }
     ensures { FirstOne (gather bits_of body.now) p result }
 {
-    let mut k = p / 6;
     let mut j = p % 6;
-    while k < body.len() {
+    for k in p / 6..body.len() {
         let i = first_in(body[k], j);
         if i < 6 {
             return 6 * k + i;
         }
-        k += 1;
         j = 0;
     }
     6 * body.len()

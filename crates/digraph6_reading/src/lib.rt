@@ -13,7 +13,7 @@ ghost use Rattle.digraph6_reading.specs.LineResults.{MatrixAsked, matrix_result,
 use bits::next_one;
 use digraph6_writing::body_length;
 use patterns::{Refusal, Reply};
-use sizes::{Size, byte_at, in_format, read_count};
+use sizes::{byte_at, in_format, read_count};
 
 // Whether these are the bytes of a matrix of `n` points: their number, each of them, and the padding.
 fn is_body(n: usize, body: &[u8]) -> bool
@@ -38,18 +38,16 @@ fn read_matrix(body: &[u8], table: &mut [u8]) -> bool
 {
     let n = table.len();
     let mut one = next_one(body, 0);
-    let mut i = 0;
-    while i < n {
+    for (i, image) in table.iter_mut().enumerate() {
         let start = i * n;
         if start + n <= one {
             return false;
         }
-        table[i] = (one - start) as u8;
+        *image = (one - start) as u8;
         one = next_one(body, one + 1);
         if one < start + n {
             return false;
         }
-        i += 1;
     }
     true
 }
@@ -60,12 +58,12 @@ fn read_body(n: usize, body: &[u8], table: &mut [u8]) -> Reply
     ensures { LineRead (read_line_body n body.now) result table.new }
 {
     if !is_body(n, body) {
-        return Reply::Refused(Refusal::LineForm);
+        return Err(Refusal::LineForm);
     }
     if !read_matrix(body, &mut table[..n]) {
-        return Reply::Refused(Refusal::OutDegree);
+        return Err(Refusal::OutDegree);
     }
-    Reply::Length(n)
+    Ok(n)
 }
 
 // The same of what follows the &.
@@ -73,10 +71,8 @@ fn read_sized(s: &[u8], table: &mut [u8]) -> Reply
     requires { length table.old ≡ 200 }
     ensures { LineRead (and_then (read_count s.now) (λ p. read_line_body p.0 (drop p.1 s.now))) result table.new }
 {
-    match read_count(s) {
-        Size::Refused(cause) => Reply::Refused(cause),
-        Size::Read(n, used) => read_body(n, &s[used..], table),
-    }
+    let size = read_count(s)?;
+    read_body(size.points, &s[size.used..], table)
 }
 
 // Reads the map of a line into the first places of `table`, and answers how many points it has.
@@ -84,8 +80,8 @@ pub fn read_line(line: &[u8], table: &mut [u8]) -> Reply
     requires { length table.old ≡ 200 }
     ensures { LineRead (read_line line.now) result table.new }
 {
-    if byte_at(line, 0) != 38 {
-        return Reply::Refused(Refusal::LineForm);
+    if byte_at(line, 0) != b'&' {
+        return Err(Refusal::LineForm);
     }
     read_sized(&line[1..], table)
 }

@@ -7,39 +7,25 @@ ghost use Rattle.digraph6_reading.specs.LineResults.{size_result};
 use digraph6_writing::size_length;
 use patterns::Refusal;
 
-// The number of points and how many bytes the size takes, or the cause of a refusal.
-#[derive(Clone, Copy)]
-pub enum Size {
-    Read(usize, usize),
-    Refused(Refusal),
+// The number of points, and how many bytes the size took.
+#[derive(Clone, Copy, Debug, PartialEq, Eq, Hash)]
+pub struct Size {
+    pub points: usize,
+    pub used: usize,
 }
 
 // The byte at a place, or 0 where there is none.
 pub fn byte_at(s: &[u8], j: usize) -> u8
     ensures { result ≡ get_or s.now j 0 }
 {
-    if j < s.len() {
-        return s[j];
-    }
-    0
+    s.get(j).copied().unwrap_or(0)
 }
 
 // Whether all bytes are bytes of the format.
 pub fn in_format(s: &[u8]) -> bool
     ensures { result ≡ each in_format s.now }
 {
-    let mut i = 0;
-    while i < s.len() {
-        let x = s[i];
-        if x < 63 {
-            return false;
-        }
-        if 126 < x {
-            return false;
-        }
-        i += 1;
-    }
-    true
+    s.iter().all(|x| (63..=126).contains(x))
 }
 
 // The number that these bytes are the digits of, six bits each.
@@ -48,55 +34,51 @@ fn value(digits: &[u8]) -> usize
     ensures { result ≡ size_value 0 digits.now }
 {
     let mut a = 0;
-    let mut i = 0;
-    while i < digits.len() {
-        a = a * 64 + (digits[i] as usize - 63);
-        i += 1;
+    for x in digits {
+        a = a * 64 + usize::from(*x - 63);
     }
     a
 }
 
 // A number in the `k` bytes after the first `j`.
-fn sized(s: &[u8], j: usize, k: usize) -> Size
+fn sized(s: &[u8], j: usize, k: usize) -> Result<Size, Refusal>
     requires { (j ≤ 2) × (0 < k) × (k ≤ 6) }
     ensures { size_result result ≡ sized_of j k s.now }
 {
     let end = j + k;
     if s.len() < end {
-        return Size::Refused(Refusal::LineForm);
+        return Err(Refusal::LineForm);
     }
     if !in_format(&s[j..end]) {
-        return Size::Refused(Refusal::LineForm);
+        return Err(Refusal::LineForm);
     }
-    Size::Read(value(&s[j..end]), end)
+    let points = value(&s[j..end]);
+    Ok(Size { points, used: end })
 }
 
 // The size in one of its three forms.
-fn read_size(s: &[u8]) -> Size
+fn read_size(s: &[u8]) -> Result<Size, Refusal>
     ensures { size_result result ≡ read_size s.now }
 {
-    if byte_at(s, 0) != 126 {
+    if byte_at(s, 0) != b'~' {
         return sized(s, 0, 1);
     }
-    if byte_at(s, 1) != 126 {
+    if byte_at(s, 1) != b'~' {
         return sized(s, 1, 3);
     }
     sized(s, 2, 6)
 }
 
 // The size of at most 200 points in its shortest form.
-pub fn read_count(s: &[u8]) -> Size
+pub fn read_count(s: &[u8]) -> Result<Size, Refusal>
     ensures { size_result result ≡ read_count s.now }
 {
-    let size = read_size(s);
-    let Size::Read(n, used) = size else {
-        return size;
-    };
-    if 200 < n {
-        return Size::Refused(Refusal::Count);
+    let size = read_size(s)?;
+    if 200 < size.points {
+        return Err(Refusal::Count);
     }
-    if used != size_length(n) {
-        return Size::Refused(Refusal::LineForm);
+    if size.used != size_length(size.points) {
+        return Err(Refusal::LineForm);
     }
-    size
+    Ok(size)
 }

@@ -3,12 +3,12 @@ use mathlib.Core.Path.{◌≡◌, refl, ap, sym, ◌∙◌}
 use mathlib.Core.Bool.{true}
 use mathlib.Core.List.{List, [], ◌∷◌, ◌++◌, append-nil}
 use Prim.Native.Nat.{ℕ, zero, suc, ◌+◌, ◌*◌, ◌/◌, ◌%◌, ◌≤◌, ◌<◌}
-use native.Mathlib.Nat.{add-zero, zero-add, mul-le-mul}
+use native.Mathlib.Nat.{add-zero, zero-add}
 use native.Mathlib.Numerals.{add-one}
 use native.Mathlib.Omega.{arith}
 use lib.Dec.{ltb, eqb-suc-suc}
 use lib.ListN.{length, get_or, take, set, replicate, get_or-eq_default}
-use lib.Seq.{take-suc, take_all, length-take-le}
+use lib.Seq.{take-suc, length-take-le}
 use borrow.Author.Tests.{ne_eqb, ltb-true, ltb-false}
 use Rattle.lists.specs.Select.{each, gather}
 use Rattle.lists.proofs.Tests.{by-test, each_member}
@@ -16,7 +16,7 @@ use Rattle.lists.proofs.Members.{gather_append}
 use Rattle.lists.proofs.Places.{in-index}
 use Rattle.lists.proofs.EqualPieces.{pair-below}
 use Rattle.patterns.specs.Table.{is_table, image}
-use Rattle.patterns.specs.Digraph6.{matrix_row, matrix, packed, body_length, in_format}
+use Rattle.patterns.specs.Digraph6.{matrix_row, packed, body_length, in_format}
 use Rattle.map_theory.proofs.Isomorphisms.{table_below}
 use Rattle.line_theory.proofs.Packing.{packed-length, packed-format, in-format}
 use Rattle.line_theory.proofs.Rows.{row-length, row_at, rows-length, rows-bits}
@@ -71,9 +71,6 @@ module _ {f body : List ℕ} {i : ℕ} (w : Writing f body i) where
   pub writing-length : length body ≡ body_length (length f)
   writing-length = ap length w.output ∙ packed-length (body_length (length f)) (rows f i)
 
-  pub writing-short : length f ≤ 200 → length body ≤ 6667
-  writing-short h = omega (arith, writing-length, mul-le-mul h h)
-
   -- the bits of all pairs of points stand in the body
   pub bit-within : {x y : ℕ} → x < length f → y < length f → x * length f + y < length body * 6
   bit-within h k = omega (arith, pair-below h k, writing-length, body-holds (length f))
@@ -101,6 +98,3 @@ module _ {f body : List ℕ} {i : ℕ} (w : Writing f body i) where
             rw w.output
             (sym (packed_more (rows f i) (rows f (i + 1)) (arc f i) more (body_length (length f)) (omega (arith, bit-within h point, writing-length))));
       }
-
-  pub writing-end : length f ≤ i → body ≡ packed (body_length (length f)) (matrix f)
-  writing-end h = w.output ∙ ap (λ l. packed (body_length (length f)) (gather (matrix_row (length f)) l)) (take_all i f h)

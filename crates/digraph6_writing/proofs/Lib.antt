@@ -1,5 +1,4 @@
 -- The laws of writing a line.
 pub mod OneBit
 pub mod Arcs
-pub mod Heads
 pub mod LineParts

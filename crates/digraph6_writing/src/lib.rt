@@ -5,11 +5,10 @@ ghost use Rattle.std.specs.Prelude.{◌≡◌, ◌∷◌, ◌≤◌, ◌<◌, le
 ghost use Rattle.patterns.specs.Digraph6.{size_field, body_length, packed, matrix, digraph6};
 ghost use Rattle.patterns.specs.Entry.{Replied, Outcome.gives};
 ghost use Rattle.patterns.specs.Replies.{answer_of};
-ghost use Rattle.tables.specs.Tables.{Table};
 ghost use Rattle.digraph6_writing.specs.BodyPlaces.{weight_of, HeadAsked, BodyAsked};
 
-use lists::set_all;
 use patterns::{Refusal, Reply};
+use tables::Table;
 
 // How many bytes the size of `n` points takes.
 pub fn size_length(n: usize) -> usize
@@ -34,12 +33,12 @@ fn write_head(n: usize, out: &mut [u8])
     requires { HeadAsked n out.old }
     ensures { out.new ≡ 38 ∷ size_field n }
 {
-    out[0] = 38;
+    out[0] = b'&';
     if n < 63 {
         out[1] = (63 + n) as u8;
         return;
     }
-    out[1] = 126;
+    out[1] = b'~';
     out[2] = (63 + n / 4096) as u8;
     out[3] = (63 + n / 64 % 64) as u8;
     out[4] = (63 + n % 64) as u8;
@@ -58,29 +57,24 @@ fn write_body(f: &[u8], body: &mut [u8])
     requires { BodyAsked f.now body.old }
     ensures { body.new ≡ packed (body_length (length f.now)) (matrix f.now) }
 {
-    set_all(body, 63);
-    let n = f.len();
-    let mut i = 0;
-    while i < n {
-        let y = f[i] as usize;
-        let place = i * n + y;
+    body.fill(63);
+    for (i, y) in f.iter().enumerate() {
+        let place = i * f.len() + usize::from(*y);
         body[place / 6] += weight(place % 6);
-        i += 1;
     }
 }
 
-// Puts the line of the map `f` into `out`.
-pub fn put_line(f: &[u8], out: &mut [u8]) -> Reply
-    requires { Table f.now }
-    ensures { Replied (gives (digraph6 f.now)) out.old (answer_of result) out.new }
+// Puts the line of the map `table` into `out`.
+pub fn put_line(table: Table, out: &mut [u8]) -> Reply
+    ensures { Replied (gives (digraph6 table.entry.images.now)) out.old (answer_of result) out.new }
 {
-    let n = f.len();
+    let n = table.images.len();
     let head = 1 + size_length(n);
     let length = head + body_length(n);
     if out.len() < length {
-        return Reply::Refused(Refusal::Room);
+        return Err(Refusal::Room);
     }
     write_head(n, &mut out[..head]);
-    write_body(f, &mut out[head..length]);
-    Reply::Length(length)
+    write_body(table.images, &mut out[head..length]);
+    Ok(length)
 }

@@ -1,16 +1,18 @@
 -- Distances that are noted: found by stepping to the first noted point, and noted along the same way.
 use mathlib.Core.Path.{◌≡◌, refl, ap, sym, ◌∙◌}
+use mathlib.Core.Bool.{true}
 use mathlib.Core.List.{List}
-use Prim.Native.Nat.{ℕ, suc, ◌+◌, ◌-◌, ◌≤◌, ◌<◌}
+use Prim.Native.Nat.{ℕ, suc, max, ◌+◌, ◌-◌, ◌≤◌, ◌<◌}
 use native.Mathlib.Omega.{arith}
-use lib.Dec.{eqb}
-use borrow.Author.Tests.{eqb-true, eqb-false}
+use lib.Dec.{eqb, leb}
+use borrow.Author.Tests.{eqb-true, eqb-false, leb-true, leb-false}
 use lib.ListN.{length, get_or, set, length-set}
 use lib.Seq.{get_or-set_same, get_or-set_other}
+use Rattle.std.specs.Ordering.{ord_max, nat_cmp}
+use Rattle.std.proofs.lemmas.Bool.Decides.{nat_tests}
 use Rattle.lists.proofs.Tests.{by-test}
-use Rattle.patterns.specs.Table.{image, on_cycle}
+use Rattle.patterns.specs.Table.{image, is_table, on_cycle}
 use Rattle.patterns.specs.Census.{height}
-use Rattle.tables.specs.Tables.{Table}
 use Rattle.map_theory.proofs.Heights.{height_to, height_to-start, height_to-taken, height_to-passed, height_to-all}
 use Rattle.map_theory.proofs.Distances.{steps_on, distance-bound, distance_next}
 use Rattle.cycles.specs.Marks.{Marked}
@@ -27,6 +29,9 @@ marks-noted {f} {marks} m =
           m.marks_are x h ∙ rw on (ap suc (sym (steps_on (length f) (image f) (length f) x on)));
       off_cycles = λ x h e. marks-off m h e;
     }
+
+pub noted-table : {f noted : List ℕ} → is_table f ≡ true → length f ≤ 200 → Noted f noted → NotedTable f noted
+noted-table t h n = record { table = t; small = h; is_noted = n }
 
 -- the table with other notes
 pub renoted : {f noted noted' : List ℕ} → NotedTable f noted → Noted f noted' → NotedTable f noted'
@@ -45,9 +50,6 @@ module _ {f noted : List ℕ} (t : NotedTable f noted) where
 pub record Stepping (f : List ℕ) (x k y : ℕ) : Type 0 where
   pub point : y < length f
   pub rest : distance_in f x ≡ k + distance_in f y
-
-pub stepping-start : (f : List ℕ) (x : ℕ) → x < length f → Stepping f x 0 x
-stepping-start f x h = record { point = h; rest = omega arith }
 
 module _ {f noted : List ℕ} (t : NotedTable f noted) {x k y : ℕ} (s : Stepping f x k y) where
   pub stepping-next : get_or noted y 0 ≡ 0 → Stepping f x (k + 1) (image f y)
@@ -106,6 +108,10 @@ module _ {f noted₀ noted : List ℕ} {k y d : ℕ} (w : NotingWay f noted₀ k
   pub noting-end : WayNoted f noted₀ k noted
   noting-end = record { is_noted = w.known.is_noted; within = w.within }
 
+-- the greater of two numbers, as the library's method finds it
+pub greater-is : (a b : ℕ) → ord_max nat_cmp a b ≡ max a b
+greater-is a b = grind (arith, nat_tests)
+
 -- The greatest distance of the points below x, and the notes so far: none is greater.
 pub record Measuring (f noted : List ℕ) (most x : ℕ) : Type 0 where
   pub known : NotedTable f noted
@@ -113,10 +119,10 @@ pub record Measuring (f noted : List ℕ) (most x : ℕ) : Type 0 where
   pub most_is : most ≡ height_to (length f) (image f) x
   pub none_greater : Within (suc most) noted
 
-pub measuring-start : {f marks : List ℕ} → Table f → Marked f marks → Measuring f marks 0 0
-measuring-start {f} {marks} t m =
+pub measuring-start : {f marks : List ℕ} → is_table f ≡ true → length f ≤ 200 → Marked f marks → Measuring f marks 0 0
+measuring-start {f} {marks} table small m =
     record {
-      known = record { table = t.table; small = t.small; is_noted = marks-noted m };
+      known = record { table = table; small = small; is_noted = marks-noted m };
       passed = omega arith;
       most_is = sym (height_to-start (length f) (image f));
       none_greater = λ z b.
@@ -135,24 +141,16 @@ module _ {f noted : List ℕ} {most x : ℕ} (s : Measuring f noted most x) (h :
       }
 
   module _ {d : ℕ} (e : d ≡ distance_in f x) {noted' : List ℕ} (w : WayNoted f noted d noted') where
-    -- a point that is further than all before
-    pub measuring-further : most ≤ d → Measuring f noted' d (x + 1)
-    measuring-further b =
+    -- a point that was not noted: it is further than all before, or it is not
+    pub measuring-walked : Measuring f noted' (max most d) (x + 1)
+    measuring-walked =
         record {
           known = renoted s.known w.is_noted;
           passed = omega arith;
-          most_is = height_to-taken (length f) (image f) x s.most_is e b;
-          none_greater = w.within (suc d) (omega arith) (λ z a. omega (arith, s.none_greater z a));
-        }
-
-    -- any other
-    pub measuring-nearer : d ≤ most → Measuring f noted' most (x + 1)
-    measuring-nearer b =
-        record {
-          known = renoted s.known w.is_noted;
-          passed = omega arith;
-          most_is = height_to-passed (length f) (image f) x s.most_is e b;
-          none_greater = w.within (suc most) (omega arith) s.none_greater;
+          most_is = by-test (leb most d)
+              (λ t. let b = leb-true most d t in omega (arith, height_to-taken (length f) (image f) x s.most_is e b))
+              (λ t. let b = leb-false most d t in omega (arith, height_to-passed (length f) (image f) x s.most_is e (omega arith)));
+          none_greater = w.within (suc (max most d)) (omega arith) (λ z a. omega (arith, s.none_greater z a));
         }
 
 pub measuring-end : {f noted : List ℕ} {most x : ℕ} → Measuring f noted most x → length f ≤ x → most ≡ height (length f) (image f)

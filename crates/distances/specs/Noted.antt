@@ -19,16 +19,6 @@ pub record NotedTable (f noted : List ℕ) : Type 0 where
   pub small : length f ≤ 200
   pub is_noted : Noted f noted
 
--- x is a point of it
-pub record NotedPoint (f noted : List ℕ) (x : ℕ) : Type 0 where
-  pub known : NotedTable f noted
-  pub here : x < length f
-
--- and d is its distance
-pub record DistanceKnown (f noted : List ℕ) (x d : ℕ) : Type 0 where
-  pub point : NotedPoint f noted x
-  pub distance : d ≡ distance_in f x
-
 -- every number of a list is at most m
 abbrev pub Within : ℕ → List ℕ → Type 0
 Within m l = (z : ℕ) → z < length l → get_or l z 0 ≤ m

@@ -2,22 +2,25 @@
 // points on cycles are such a list. So every point is walked over at most twice.
 #![tactic(auto)]
 
-ghost use Rattle.std.specs.Prelude.{◌≡◌, length};
+ghost use Rattle.std.specs.Prelude.{◌≡◌, ◌<◌, length};
 ghost use Rattle.patterns.specs.Table.{image};
-ghost use Rattle.patterns.specs.Census.{steps_to_cycle, height as height_of};
-ghost use Rattle.tables.specs.Tables.{Table};
+ghost use Rattle.patterns.specs.Census.{height as height_of};
 ghost use Rattle.cycles.specs.Marks.{Marked};
-ghost use Rattle.distances.specs.Noted.{NotedPoint, DistanceKnown, WayNoted};
+ghost use Rattle.distances.specs.Noted.{distance_in, Noted, WayNoted};
 
 use patterns::points_room;
+use tables::Table;
 
 // The steps from `x` to its cycle: those to the first point whose distance is noted, and that distance.
-fn distance(f: &[u8], noted: &[u8], x: usize) -> usize
-    requires { NotedPoint f.now noted.now x }
-    ensures { result ≡ steps_to_cycle (length f.now) (image f.now) (length f.now) x }
+fn distance(table: Table, noted: &[u8], x: usize) -> usize
+    requires known { Noted table.images.now noted.now }
+    requires here { x < length table.images.now }
+    ensures { result ≡ distance_in table.entry.images.now x }
 {
+    let f = table.images;
     let mut steps = 0;
     let mut y = x;
+    // No `for`: the table tells where the walk goes on, and the notes where it ends.
     while noted[y] == 0 {
         y = f[y] as usize;
         steps += 1;
@@ -27,12 +30,16 @@ fn distance(f: &[u8], noted: &[u8], x: usize) -> usize
 }
 
 // Notes the distance of `x` and of the points after it, up to the first whose distance is noted already.
-fn note_way(f: &[u8], noted: &mut [u8], x: usize, distance: usize)
-    requires { DistanceKnown f.now noted.old x distance }
-    ensures { WayNoted f.now noted.old distance noted.new }
+fn note_way(table: Table, noted: &mut [u8], x: usize, distance: usize)
+    requires known { Noted table.images.now noted.old }
+    requires here { x < length table.images.now }
+    requires told { distance ≡ distance_in table.images.now x }
+    ensures { WayNoted table.entry.images.now noted.old distance noted.new }
 {
+    let f = table.images;
     let mut y = x;
     let mut note = distance + 1;
+    // No `for`, as above.
     while noted[y] == 0 {
         noted[y] = note as u8;
         y = f[y] as usize;
@@ -41,32 +48,27 @@ fn note_way(f: &[u8], noted: &mut [u8], x: usize, distance: usize)
 }
 
 // The greatest distance of a point from its cycle; the marks become notes. A point that is noted already is no further than one before.
-fn marked_height(f: &[u8], marks: &mut [u8]) -> usize
-    requires { Table f.now × Marked f.now marks.old }
-    ensures { result ≡ height_of (length f.now) (image f.now) }
+fn marked_height(table: Table, marks: &mut [u8]) -> usize
+    requires { Marked table.images.now marks.old }
+    ensures { result ≡ height_of (length table.entry.images.now) (image table.entry.images.now) }
 {
     let mut most = 0;
-    let mut x = 0;
-    while x < f.len() {
+    for x in 0..table.images.len() {
         if marks[x] == 0 {
-            let steps = distance(f, marks, x);
-            note_way(f, marks, x, steps);
-            if most <= steps {
-                most = steps;
-            }
+            let steps = distance(table, marks, x);
+            note_way(table, marks, x, steps);
+            most = most.max(steps);
         }
-        x += 1;
     }
     most
 }
 
-// The greatest distance of a point of the table `f` from its cycle.
-pub fn height(f: &[u8]) -> usize
-    requires { Table f.now }
-    ensures { result ≡ height_of (length f.now) (image f.now) }
+// The greatest distance of a point of a table from its cycle.
+pub fn height(table: Table) -> usize
+    ensures { result ≡ height_of (length table.entry.images.now) (image table.entry.images.now) }
 {
-    let n = f.len();
+    let n = table.images.len();
     let mut marks = points_room();
-    cycles::mark_cycles(f, &mut marks[..n]);
-    marked_height(f, &mut marks[..n])
+    cycles::mark_cycles(table, &mut marks[..n]);
+    marked_height(table, &mut marks[..n])
 }

@@ -12,7 +12,7 @@ use Rattle.lists.specs.Select.{total}
 use Rattle.lists.proofs.Tests.{◌∈◌, by-test, clash}
 use Rattle.lists.proofs.Permute.{total-same, total-map}
 use Rattle.patterns.specs.declared.Refusal.{Refusal}
-use Rattle.patterns.specs.declared.reply.Quantity.{Quantity}
+use Rattle.std.specs.Prelude.{Result}
 use Rattle.patterns.specs.System.{System, weight, codes}
 use Rattle.patterns.specs.Written.{written}
 use Rattle.patterns.specs.Table.{system_of_table}
@@ -126,7 +126,7 @@ pub answers-total : (n : ℕ) → n ≤ 15 → total (λ S. number_in (CountAnsw
 answers-total n h = total-same (λ S. number_in (CountAnswer (written S))) (tables_with n) (codes n) (listed-number n h) ∙ tables-of-codes n
 
 -- the same of the running replies: a list of them, one to each code
-pub replies-total : (n : ℕ) → n ≤ 15 → (replies : List Quantity) → map quantity_answer replies ≡ map (λ S. CountAnswer (written S)) (codes n)
+pub replies-total : (n : ℕ) → n ≤ 15 → (replies : List (Result ℕ Refusal)) → map quantity_answer replies ≡ map (λ S. CountAnswer (written S)) (codes n)
     → total (λ r. number_in (quantity_answer r)) replies ≡ n ^ n
 replies-total n h replies e =
     sym (total-map number_in quantity_answer replies)

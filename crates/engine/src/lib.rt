@@ -12,9 +12,7 @@ pub use digraph6_entries::{code_of_digraph6, digraph6_of_code};
 pub use greatest_period_entry::greatest_period;
 pub use isomorphism_entry::isomorphism;
 pub use page_entry::page;
-pub use patterns::{
-    Census, GreatestPeriod, Isomorphism, Page, Predecessor, Quantity, Reply, Row, Successor,
-};
+pub use patterns::{Census, Found, GreatestPeriod, Page, Refusal, Reply, Row};
 pub use period_entry::period;
 pub use predecessor_entry::predecessor;
 pub use successor_entry::successor;

@@ -3,7 +3,7 @@ use mathlib.Core.Path.{◌≡◌, refl, ap, ap₂, sym, ◌∙◌}
 use mathlib.Core.Bool.{Bool, true, false, cond}
 use mathlib.Core.List.{List, [], ◌∷◌, map}
 use mathlib.Core.Option.{none, some}
-use Prim.Native.Nat.{ℕ, ◌-◌, ◌≤◌, ◌<◌}
+use Prim.Native.Nat.{ℕ, ◌-◌, ◌<◌}
 use native.Mathlib.Omega.{arith}
 use lib.ListN.{length, take, drop, get_or, drop_of_length-le}
 use Rattle.lists.specs.Order.{same}
@@ -46,13 +46,6 @@ module _ {sizes before up₀ side₀ out₀ : List ℕ} (w : HeldCanonical sizes
   -- the part of it that is not about falling
   pub fall-reached : (S : System) → Holds S sizes before → Reached S sizes trees i at
   fall-reached S h = (f S h).reached
-
-  -- no component can fall
-  pub fall-end : i ≤ 0 → (S : System) → Holds S sizes before → Bumped (fall [] S) false sizes trees
-  fall-end k S h =
-      let z : i ≡ 0 = omega arith in
-      let e : fall [] S ≡ none = rw z at (f S h).nothing in
-      rw e refl
 
   -- Component i - 1, the next to the left, which begins here:
   abbrev begin : ℕ

@@ -28,17 +28,16 @@ module _ {c : Component} {T : System} {sizes trees : List ℕ} (h : Holds (c ∷
   -- its predecessor, if there is one, in front of the last components
   found : valid_component c ≡ true → (o : Option Component) → o ≡ predecessor c → (r : Bool) (last rest : List ℕ) → Gave o r last → r ≡ true
       → (part filled after : List ℕ) → part ≡ take (get_or sizes 0 0) (last ++ rest) → filled ≡ gather flat (lasts sizes)
-      → after ≡ part ++ drop (length part) filled → Advanced o (λ d. lasts (map points T)) true trees after
+      → after ≡ part ++ drop (get_or sizes 0 0) filled → Advanced o (λ d. lasts (map points T)) true trees after
   found v none e r last rest g f part filled after t a q = absurd (true≢false (sym f ∙ g))
   found v (some d) e r last rest g f part filled after t a q =
       let p = neighbour-valid false c d v (sym e) in
       let size = ahead-size h in
       let n : length last ≡ get_or sizes 0 0 = ap length g.1 ∙ length-flat d ∙ p.1 ∙ sym size in
-      let is : part ≡ flat d = t ∙ take_at last rest (get_or sizes 0 0) n ∙ g.1 in
-      let len : length part ≡ points c = ap length is ∙ length-flat d ∙ p.1 in (
+      let is : part ≡ flat d = t ∙ take_at last rest (get_or sizes 0 0) n ∙ g.1 in (
         refl,
         q
-            ∙ ap₂ ◌++◌ is (ap₂ drop len (a ∙ ap (λ l. gather flat (lasts l)) h.points_are) ∙ lasts-behind (points c) (map points T)),
+            ∙ ap₂ ◌++◌ is (ap₂ drop size (a ∙ ap (λ l. gather flat (lasts l)) h.points_are) ∙ lasts-behind (points c) (map points T)),
       )
 
 module _ {sizes trees up side out : List ℕ} (w : HeldAhead sizes trees up side out) (r : Bool) (last : List ℕ)
@@ -48,7 +47,7 @@ module _ {sizes trees up side out : List ℕ} (w : HeldAhead sizes trees up side
   retreat-none f c T h = advanced-missing h (predecessor c) (λ d. lasts (map points T)) r last (g c (ahead-part h)) f
 
   pub retreat-some : r ≡ true → (rest part filled after : List ℕ) → part ≡ take (get_or sizes 0 0) (last ++ rest) → filled ≡ gather flat (lasts sizes)
-      → after ≡ part ++ drop (length part) filled
+      → after ≡ part ++ drop (get_or sizes 0 0) filled
       → (c : Component) (T : System) → Holds (c ∷ T) sizes trees → Advanced (predecessor c) (λ d. lasts (map points T)) true trees after
   retreat-some f rest part filled after t a q c T h =
       let e : w.first ≡ c = head-eq_of_cons-eq (held-unique w.holds h) in

@@ -12,7 +12,7 @@ ghost use Rattle.memory.specs.Memory.{Holds};
 ghost use Rattle.bumping.specs.HeldBumps.{HeldAhead, Advanced, HeldCanonical, Bumped};
 ghost use Rattle.falling.specs.HeldFalls.{HeldComponent};
 
-use lists::{copy, equal};
+use lists::equal;
 use lower_sizes::last_right;
 use succession::predecessor;
 
@@ -47,7 +47,7 @@ fn retreat(sizes: &[u8], trees: &mut [u8], up: &mut [u8], side: &mut [u8], out: 
         return false;
     }
     last_right(sizes, trees);
-    copy(&out[..size], trees);
+    trees[..size].copy_from_slice(&out[..size]);
     true
 }
 
@@ -57,15 +57,11 @@ pub fn fall(sizes: &[u8], trees: &mut [u8], up: &mut [u8], side: &mut [u8], out:
     ensures { (S : System) → Holds S sizes.now trees.old
         → Bumped (fall_of [] S) result sizes.now trees.new }
 {
-    let mut i = sizes.len();
     let mut at = trees.len();
-    while 0 < i {
-        i -= 1;
+    for i in (0..sizes.len()).rev() {
         at -= sizes[i] as usize;
-        if !repeats(sizes, trees, i, at) {
-            if retreat(&sizes[i..], &mut trees[at..], up, side, out) {
-                return true;
-            }
+        if !repeats(sizes, trees, i, at) && retreat(&sizes[i..], &mut trees[at..], up, side, out) {
+            return true;
         }
     }
     false

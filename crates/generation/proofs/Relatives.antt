@@ -14,8 +14,7 @@ use Rattle.patterns.specs.Generation.{has_parent, parent, candidates}
 use Rattle.patterns.proofs.Trees.{compare_component-lawful, length-flat}
 use Rattle.components.specs.Climbs.{Climbed}
 use Rattle.component_theory.specs.Successor.{first_child, next_sibling, opening}
-use Rattle.components.specs.declared.Climb.{Climb}
-use Rattle.components.specs.declared.Climb.TheVariants.{Root as NoParent, Key}
+use Rattle.std.proofs.Common.{Option as Perhaps, Some, None}
 use Rattle.component_theory.proofs.Lemma8.{parent-valid}
 use Rattle.component_theory.proofs.Children.{in-candidates}
 use Rattle.component_theory.specs.Path.{key}
@@ -66,7 +65,7 @@ pub record Raised (s x : List ℕ) (k : ℕ) : Type 0 where
   pub same : length x ≡ length s
   pub up : (c : Component) → s ≡ flat c → (has_parent c ≡ true) × (x ≡ flat (parent c)) × (k ≡ key c)
 
-pub raised : {s : List ℕ} → Node s → (r : Climb) (k : ℕ) → r ≡ Key k → (x : List ℕ) → length x ≡ length s
+pub raised : {s : List ℕ} → Node s → (r : Perhaps ℕ) (k : ℕ) → r ≡ Some k → (x : List ℕ) → length x ≡ length s
     → ((c : Component) → s ≡ flat c → Climbed c r x) → Raised s x k
 raised p r k climbs x same climbed = record { node = p; same = same; up = λ c e. subst (λ q. Climbed c q x) climbs (climbed c e) }
 
@@ -114,7 +113,7 @@ key-small {s} p {k} h =
 pub key-within : {s : List ℕ} {k : ℕ} → ChildKey s k → PlaceIn s k
 key-within h c e = omega (arith, h c e)
 
-pub climbed-root : (c : Component) (r : Climb) (x : List ℕ) → Climbed c r x → r ≡ NoParent → has_parent c ≡ false
+pub climbed-root : (c : Component) (r : Perhaps ℕ) (x : List ℕ) → Climbed c r x → r ≡ None → has_parent c ≡ false
 climbed-root c r x g e = subst (λ k. Climbed c k x) e g
 
 get_d-gave : (o : Option Component) (d : Component) (x : List ℕ) → Gave o true x → x ≡ flat (get_or o d)

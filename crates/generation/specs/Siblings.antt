@@ -6,8 +6,15 @@ use Rattle.patterns.specs.Generation.{has_parent, parent, candidates}
 use Rattle.component_theory.specs.ChildPlaces.{child_from, child_before}
 use Rattle.component_theory.specs.Successor.{next_sibling}
 use Rattle.children.specs.Candidates.{Gave}
+use Rattle.generation.specs.declared.Direction.{Direction}
+use Rattle.generation.specs.declared.Direction.TheVariants.{Forward, Backward}
 use Rattle.generation.specs.declared.Sibling.{Sibling}
 use Rattle.generation.specs.declared.Sibling.TheVariants.{Root, Last, Next}
+
+-- the flag of a direction
+abbrev pub is_forward : Direction → Bool
+is_forward Forward = true
+is_forward Backward = false
 
 -- k is a place of the candidates
 abbrev pub ChildKey : List ℕ → ℕ → Type 0

@@ -7,15 +7,21 @@ ghost use Rattle.patterns.specs.Component.{Component, flat};
 ghost use Rattle.component_theory.specs.Successor.{first_child, opening as opening_of};
 ghost use Rattle.children.specs.Candidates.{Gave};
 ghost use Rattle.scanning.specs.HeldNodes.{Node, AsLong};
-ghost use Rattle.generation.specs.Siblings.{ChildKey, child_beside, Beside};
+ghost use Rattle.generation.specs.Siblings.{is_forward, ChildKey, child_beside, Beside};
 
-use components::{Climb, parent};
-use lists::copy;
+use components::parent;
 use scanning::{scan, scan_down};
 use trees::count;
 
+// The way along the children, and with it along generation order.
+#[derive(Clone, Copy, Debug, PartialEq, Eq, Hash)]
+pub enum Direction {
+    Forward,
+    Backward,
+}
+
 // Beside a component: it has no parent, it is its parent's last child, or it has a next sibling.
-#[derive(Clone, Copy)]
+#[derive(Clone, Copy, Debug, PartialEq, Eq, Hash)]
 pub enum Sibling {
     Root,
     Last,
@@ -23,48 +29,50 @@ pub enum Sibling {
 }
 
 // The first child.
-pub fn first_child(forward: bool, s: &[u8], out: &mut [u8]) -> bool
+pub fn first_child(direction: Direction, s: &[u8], out: &mut [u8]) -> bool
     requires { Node s.now × AsLong s.now out.old }
-    ensures { (c : Component) → s.now ≡ flat c → Gave (first_child forward c) result out.new }
+    ensures { (c : Component) → s.now ≡ flat c → Gave (first_child (is_forward direction) c) result out.new }
 {
-    if forward {
-        return scan(s, 0, out);
+    match direction {
+        Direction::Forward => scan(s, 0, out),
+        Direction::Backward => {
+            let pairs = count(s) - 1;
+            scan_down(s, pairs + pairs, out)
+        }
     }
-    let pairs = count(s) - 1;
-    scan_down(s, pairs + pairs, out)
 }
 
 // The child after the one with this key.
-fn child_beside(forward: bool, s: &[u8], key: usize, out: &mut [u8]) -> bool
+fn child_beside(direction: Direction, s: &[u8], key: usize, out: &mut [u8]) -> bool
     requires { Node s.now × AsLong s.now out.old × ChildKey s.now key }
-    ensures { (c : Component) → s.now ≡ flat c → Gave (child_beside forward c key) result out.new }
+    ensures { (c : Component) → s.now ≡ flat c → Gave (child_beside (is_forward direction) c key) result out.new }
 {
-    if forward {
-        return scan(s, key + 1, out);
+    match direction {
+        Direction::Forward => scan(s, key + 1, out),
+        Direction::Backward => scan_down(s, key, out),
     }
-    scan_down(s, key, out)
 }
 
 // The parent, in `up`, and the next sibling, in `out`.
-pub fn next_sibling(forward: bool, s: &[u8], up: &mut [u8], out: &mut [u8]) -> Sibling
+pub fn next_sibling(direction: Direction, s: &[u8], up: &mut [u8], out: &mut [u8]) -> Sibling
     requires { Node s.now × AsLong s.now out.old × AsLong s.now up.old }
-    ensures { (c : Component) → s.now ≡ flat c → Beside forward c result up.new out.new }
+    ensures { (c : Component) → s.now ≡ flat c → Beside (is_forward direction) c result up.new out.new }
 {
-    let Climb::Key(key) = parent(s, up) else {
+    let Some(key) = parent(s, up) else {
         return Sibling::Root;
     };
-    if child_beside(forward, up, key, out) {
+    if child_beside(direction, up, key, out) {
         return Sibling::Next;
     }
     Sibling::Last
 }
 
 // The first child, and where there is none the component itself.
-pub fn opening(forward: bool, s: &[u8], out: &mut [u8])
+pub fn opening(direction: Direction, s: &[u8], out: &mut [u8])
     requires { Node s.now × AsLong s.now out.old }
-    ensures { (c : Component) → s.now ≡ flat c → out.new ≡ flat (opening_of forward c) }
+    ensures { (c : Component) → s.now ≡ flat c → out.new ≡ flat (opening_of (is_forward direction) c) }
 {
-    if !first_child(forward, s, out) {
-        copy(s, out);
+    if !first_child(direction, s, out) {
+        out.copy_from_slice(s);
     }
 }

@@ -10,11 +10,11 @@ pub fn read_full(from: &mut impl Read, out: &mut [u8]) -> usize
     ensures { result ≤ length out.new }
 {
     let mut len = 0;
+    // No index is counted: a read says how far it came.
     while len < out.len() {
         match from.read(&mut out[len..]) {
-            Ok(0) => return len,
+            Ok(0) | Err(_) => return len,
             Ok(n) => len += n,
-            Err(_) => return len,
         }
     }
     len

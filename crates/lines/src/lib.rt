@@ -18,19 +18,13 @@ pub fn put_header(n: usize, out: &mut [u8], at: usize) -> usize
     put_byte(b'\n', out, end)
 }
 
-fn wide(x: u8) -> usize
-    ensures { (result ≡ x) × (result < 256) }
-{
-    x as usize
-}
-
 // A space and a number of at most three digits.
 fn put_spaced(x: u8, out: &mut [u8], at: usize) -> usize
     requires { at + 21 ≤ length out.old }
     ensures { Added (spaced x) at out.old result out.new × (result ≤ at + 4) }
 {
     let place = put_byte(b' ', out, at);
-    put_decimal(wide(x), out, place)
+    put_decimal(usize::from(x), out, place)
 }
 
 // A space and a number for each byte of `code`: up to 127 points every number of a code is one byte.
@@ -39,10 +33,8 @@ fn put_numbers(code: &[u8], out: &mut [u8], at: usize) -> usize
     ensures { Added (gather spaced code.now) at out.old result out.new × (result ≤ at + 4 * length code.now) }
 {
     let mut end = at;
-    let mut i = 0;
-    while i < code.len() {
-        end = put_spaced(code[i], out, end);
-        i += 1;
+    for x in code {
+        end = put_spaced(*x, out, end);
     }
     end
 }

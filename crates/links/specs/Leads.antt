@@ -1,6 +1,6 @@
 -- Leaders of cycles, found without walking round each cycle again and again: from each point on a cycle to the first one after it that is not greater.
 use Rattle.std.specs.Prelude.{◌≡◌, true, List, ℕ, ◌+◌, ◌≤◌, ◌<◌, eqb, length, get_or}
-use Rattle.patterns.specs.Table.{image, iterate, is_table, on_cycle, leads_cycle}
+use Rattle.patterns.specs.Table.{image, iterate, on_cycle, leads_cycle}
 use Rattle.cycles.specs.Marks.{Marked}
 
 -- y is the first point after x that is not greater than x
@@ -20,15 +20,12 @@ pub record Lesser (f lesser : List ℕ) (x : ℕ) : Type 0 where
 
 -- x is a point on a cycle, and the greater points are done
 pub record LesserAsked (f lesser : List ℕ) (x : ℕ) : Type 0 where
-  pub table : is_table f ≡ true
   pub here : x < length f
   pub is_on_cycle : on_cycle (length f) (image f) x ≡ true
   pub greater : Lesser f lesser (x + 1)
 
--- a table of at most 200 points with its marks, and room for a point for each point
+-- a table with its marks, and room for a point for each point
 pub record LeadsAsked (f marks leads : List ℕ) : Type 0 where
-  pub table : is_table f ≡ true
-  pub small : length f ≤ 200
   pub marked : Marked f marks
   pub room : length leads ≡ length f
 

@@ -1,6 +1,6 @@
 -- Links that lead through the points that hang at a point, from the greatest to the least: from the point to the greatest, and from each to the next.
-use Rattle.std.specs.Prelude.{◌≡◌, true, cond, List, ℕ, zero, suc, ◌≤◌, ◌<◌, length, get_or}
-use Rattle.patterns.specs.Table.{image, is_table, hangs_at}
+use Rattle.std.specs.Prelude.{◌≡◌, true, cond, List, ℕ, zero, suc, ◌<◌, length, get_or}
+use Rattle.patterns.specs.Table.{image, hangs_at}
 use Rattle.cycles.specs.Marks.{Marked}
 
 -- one more than the greatest point below y that hangs at x, and 0 where there is none
@@ -11,10 +11,8 @@ last_below f x (suc y) =
     let earlier = last_below f x y in
     cond (hangs_at (length f) (image f) x y) (suc y) earlier
 
--- a table of at most 200 points with its marks, and room for two links for each point
+-- a table with its marks, and room for two links for each point
 pub record LinksAsked (f marks last before : List ℕ) : Type 0 where
-  pub table : is_table f ≡ true
-  pub small : length f ≤ 200
   pub marked : Marked f marks
   pub last_room : length last ≡ length f
   pub before_room : length before ≡ length f

@@ -5,22 +5,16 @@
 pub mod programs;
 pub mod totals;
 
-use case_text::scores;
-use case_text::scores::Score;
+use case_text::scores::report;
 use std::io;
 use std::rt::Files;
 
-// One line of the totals: of the lists of 0 to 10 points so many hold.
-fn report_lists(to: &impl Print, name: &[u8], held: usize) -> io::Result<()> {
-    scores::report(to, name, Score { held, total: 11 })
-}
-
 // The totals, the connected ones, the tables of all codes, the listings of 0 to 8 points, and inputs that are no count.
-pub fn run(rt: &(impl Files + Print)) -> io::Result<()> {
-    let found = totals::totals();
-    report_lists(rt, b"totals", found.codes)?;
-    report_lists(rt, b"connected", found.connected)?;
-    report_lists(rt, b"tables of all codes", found.tables)?;
-    scores::report(rt, b"plain listings", programs::listings(rt))?;
-    scores::report(rt, b"bad counts", programs::bad_counts())
+pub fn run(rt: &(impl Files + Print + AllocGlobal)) -> io::Result<()> {
+    let found = totals::compare(rt.alloc());
+    report(rt, "totals", found.codes)?;
+    report(rt, "connected", found.connected)?;
+    report(rt, "tables of all codes", found.tables)?;
+    report(rt, "plain listings", programs::listings(rt)?)?;
+    report(rt, "bad counts", programs::bad_counts(rt.alloc())?)
 }

@@ -36,9 +36,6 @@ coming-few {p} {b} C =
     omega (arith, C.place, codes-few C.n C.small, ap length C.cut, length-append C.earlier (C.now ∷ C.later))
 
 -- a state of a known phase
-pub good_of : {f : Phase} (s : State) → s.phase ≡ f → Good s → GoodAt f s.len s.code
-good_of s e g = rw e at g.good
-
 pub text_of : {f : Phase} (s : State) → s.phase ≡ f → remaining s ≡ text_at f (take s.len s.code)
 text_of s e = ap (λ f. text_at f (take s.len s.code)) e
 

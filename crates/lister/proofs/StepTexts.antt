@@ -34,17 +34,6 @@ added-put {l} {rest} {t} {at} {before} {after} r h p some g e = record {
   text = ap₂ ◌++◌ p.text g.1 ∙ append_assoc (take at before) l rest ∙ ap (take at before ++◌) (sym e);
 }
 
--- nothing is left, and nothing is put
-pub nothing_put : {at : ℕ} {before : List ℕ} (r : Step) → at ≤ length before → r.len ≡ at → Good r.next × (remaining r.next ≡ [])
-    → Put [] at before r before
-nothing_put {at} {before} r h e g = record {
-  next = g.0;
-  from = omega arith;
-  within = omega arith;
-  more = λ k. omega arith;
-  text = ap₂ (λ k l. take k before ++ l) e g.1;
-}
-
 -- numbers below 128 are their own bytes
 own-bytes : (xs : List ℕ) → all_below 128 xs ≡ true → bytes xs ≡ xs
 own-bytes [] e = refl

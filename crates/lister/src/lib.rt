@@ -8,11 +8,8 @@ ghost use Rattle.lister.specs.Remaining.{codes_from, remaining};
 ghost use Rattle.lister.specs.Good.{Coming, Good};
 ghost use Rattle.lister.specs.Put.{Put};
 
-use engine::Successor;
-use patterns::Reply;
-
 // What comes next: the line `bad count`; the header of so many points; after so many lines the line of a code; the total of so many codes; nothing.
-#[derive(Clone, Copy)]
+#[derive(Clone, Copy, Debug, PartialEq, Eq, Hash)]
 pub enum Phase {
     Bad,
     Header(usize),
@@ -21,7 +18,8 @@ pub enum Phase {
     Done,
 }
 
-// Where a line comes next, its code is the first `len` bytes of `code`.
+// Where a line comes next, its code is the first `len` bytes of `code`: a thousand bytes hold every code, and no heap is used.
+// `Good` stays a clause and no ghost field: `at` makes a state of any phase, and the theorem `program-output` speaks of states as plain records.
 #[derive(Clone, Copy)]
 pub struct State {
     pub phase: Phase,
@@ -29,62 +27,85 @@ pub struct State {
     pub len: usize,
 }
 
-// What is put ends at `len`; the rest is for the next state.
+// What is put ends at `len`; the rest is for the next state. Neither is compared or printed: the places behind a code hold nothing that counts.
 #[derive(Clone, Copy)]
 pub struct Step {
     pub len: usize,
     pub next: State,
 }
 
-// A thousand bytes hold every code.
-fn room() -> [u8; 1000]
-    ensures { length result ≡ 1000 }
-{
-    [0; 1000]
-}
-
-// The state of a phase that holds no code.
-pub fn state_at(phase: Phase) -> State
-    ensures { result.phase ≡ phase }
-{
-    let code = room();
-    State {
-        phase,
-        code,
-        len: 0,
+impl State {
+    // The state of a phase that holds no code.
+    pub fn at(phase: Phase) -> State
+        ensures { result.phase ≡ phase }
+    {
+        State {
+            phase,
+            code: [0; 1000],
+            len: 0,
+        }
     }
-}
 
-// After the header of n points.
-fn first_state(n: usize) -> State
-    requires { n ≤ 14 }
-    ensures { Good result × (remaining result ≡ lines_after 0 (codes n)) }
-{
-    let mut code = room();
-    match engine::first(n, &mut code) {
-        Reply::Length(len) => State {
-            phase: Phase::Line(0),
-            code,
-            len,
-        },
-        Reply::Refused(_) => state_at(Phase::Done),
+    // After the header of n points.
+    fn first(n: usize) -> State
+        requires { n ≤ 14 }
+        ensures { Good result × (remaining result ≡ lines_after 0 (codes n)) }
+    {
+        let mut code = [0; 1000];
+        match engine::first(n, &mut code) {
+            Ok(len) => State {
+                phase: Phase::Line(0),
+                code,
+                len,
+            },
+            Err(_) => State::at(Phase::Done),
+        }
     }
-}
 
-// After the line of the code `shown`, which stands at position `count`.
-fn next_state(count: usize, shown: &[u8]) -> State
-    requires { Coming count shown.now }
-    ensures { Good result × (remaining result ≡ lines_after count (drop 1 (codes_from shown.now))) }
-{
-    let mut code = room();
-    match engine::successor(shown, &mut code) {
-        Successor::Length(len) => State {
-            phase: Phase::Line(count),
-            code,
-            len,
-        },
-        Successor::Last => state_at(Phase::Total(count)),
-        Successor::Refused(_) => state_at(Phase::Done),
+    // After the line of the code `shown`, which stands at position `count`.
+    fn after(count: usize, shown: &[u8]) -> State
+        requires { Coming count shown.now }
+        ensures { Good result × (remaining result ≡ lines_after count (drop 1 (codes_from shown.now))) }
+    {
+        let mut code = [0; 1000];
+        match engine::successor(shown, &mut code) {
+            Ok(Some(len)) => State {
+                phase: Phase::Line(count),
+                code,
+                len,
+            },
+            Ok(None) => State::at(Phase::Total(count)),
+            Err(_) => State::at(Phase::Done),
+        }
+    }
+
+    // Puts the line that comes next; nothing where nothing is left.
+    pub fn put_next(self, out: &mut [u8], at: usize) -> Step
+        requires { Good self × (at + 4096 ≤ length out.old) }
+        ensures { Put (remaining self) at out.old result out.new }
+    {
+        match self.phase {
+            Phase::Bad => {
+                let len = text::put_bytes(b"bad count\n", out, at);
+                let next = State::at(Phase::Done);
+                Step { len, next }
+            }
+            Phase::Header(n) => {
+                let len = lines::put_header(n, out, at);
+                let next = State::first(n);
+                Step { len, next }
+            }
+            Phase::Line(lines) => put_code(lines, &self.code[..self.len], out, at),
+            Phase::Total(count) => {
+                let len = lines::put_total(count, out, at);
+                let next = State::at(Phase::Done);
+                Step { len, next }
+            }
+            Phase::Done => Step {
+                len: at,
+                next: self,
+            },
+        }
     }
 }
 
@@ -94,41 +115,7 @@ fn put_code(lines: usize, code: &[u8], out: &mut [u8], at: usize) -> Step
     ensures { Put (lines_after lines (codes_from code.now)) at out.old result out.new }
 {
     let count = lines + 1;
-    let end = lines::put_line(count, code, out, at);
-    let next = next_state(count, code);
-    Step { len: end, next }
-}
-
-// Puts the line that comes next; nothing where nothing is left.
-pub fn put_next(state: State, out: &mut [u8], at: usize) -> Step
-    requires { Good state × (at + 4096 ≤ length out.old) }
-    ensures { Put (remaining state) at out.old result out.new }
-{
-    let phase = state.phase;
-    match phase {
-        Phase::Bad => {
-            let end = text::put_bytes(b"bad count\n", out, at);
-            let next = state_at(Phase::Done);
-            Step { len: end, next }
-        }
-        Phase::Header(n) => {
-            let end = lines::put_header(n, out, at);
-            let next = first_state(n);
-            Step { len: end, next }
-        }
-        Phase::Line(lines) => {
-            let len = state.len;
-            let code = state.code;
-            put_code(lines, &code[..len], out, at)
-        }
-        Phase::Total(count) => {
-            let end = lines::put_total(count, out, at);
-            let next = state_at(Phase::Done);
-            Step { len: end, next }
-        }
-        Phase::Done => Step {
-            len: at,
-            next: state,
-        },
-    }
+    let len = lines::put_line(count, code, out, at);
+    let next = State::after(count, code);
+    Step { len, next }
 }

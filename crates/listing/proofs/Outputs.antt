@@ -22,7 +22,7 @@ use Rattle.lister.specs.declared.Phase.TheVariants.{Bad as BadCount, Header}
 use Rattle.lister.specs.Remaining.{remaining}
 use Rattle.lister.specs.Good.{Good}
 use Rattle.lister.proofs.NextStates.{text_of}
-use Rattle.count_line.specs.declared.Parsed.TheVariants.{Count, Bad}
+use Rattle.std.specs.Prelude.{Some, None}
 use Rattle.count_line.specs.Count.{Reads, good, bad}
 use Rattle.count_line.proofs.Inputs.{line-short}
 
@@ -73,8 +73,8 @@ first-four input =
     long-output (take 4 input) (omega (arith, length-take-le 4 input (omega arith))) ∙ sym (long-output input (omega arith)))
 
 -- the states that the program starts from
-pub starts-count : (input : List ℕ) (n : ℕ) (s : State) → Reads input (Count n) → s.phase ≡ Header n → Good s × (remaining s ≡ output_of input)
+pub starts-count : (input : List ℕ) (n : ℕ) (s : State) → Reads input (Some n) → s.phase ≡ Header n → Good s × (remaining s ≡ output_of input)
 starts-count input n s (good h e) phase = (record { good = rw phase h }, text_of s phase ∙ sym (count-output n h) ∙ ap output_of (sym e))
 
-pub starts-bad : (input : List ℕ) (s : State) → Reads input Bad → s.phase ≡ BadCount → Good s × (remaining s ≡ output_of input)
+pub starts-bad : (input : List ℕ) (s : State) → Reads input None → s.phase ≡ BadCount → Good s × (remaining s ≡ output_of input)
 starts-bad input s (bad f) phase = (record { good = rw phase tt }, text_of s phase ∙ sym (bad-output input f))

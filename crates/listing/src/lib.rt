@@ -1,14 +1,14 @@
 // The listing program [document 01, "Sheet of examples"]: it reads a count of points and writes every code of so many points, in the order of the list.
 #![tactic(auto)]
 
-ghost use Rattle.std.specs.Prelude.{◌≡◌, [], ◌≤◌, length};
+ghost use Rattle.std.specs.Prelude.{◌≡◌, [], ◌≤◌, length, IfOk};
 ghost use Rattle.patterns.specs.ListingText.{output_of};
 ghost use Rattle.lister.specs.Remaining.{remaining};
 ghost use Rattle.lister.specs.Good.{Good};
 ghost use Rattle.listing.specs.Pieces.{FirstPiece};
 
-use count_line::{Parsed, parse};
-use lister::{Phase, State, state_at};
+use count_line::parse;
+use lister::{Phase, State};
 use pieces::{ROOM, piece};
 use std::io;
 use std::io::Write;
@@ -18,8 +18,8 @@ fn start(input: &[u8]) -> State
     ensures { Good result × (remaining result ≡ output_of input.now) }
 {
     match parse(input) {
-        Parsed::Count(n) => state_at(Phase::Header(n)),
-        Parsed::Bad => state_at(Phase::Bad),
+        Some(n) => State::at(Phase::Header(n)),
+        None => State::at(Phase::Bad),
     }
 }
 
@@ -30,44 +30,23 @@ pub fn text_into(input: &[u8], out: &mut [u8]) -> usize
     if out.len() < ROOM {
         return 0;
     }
-    let step = piece(start(input), out);
-    step.len
+    piece(start(input), out).len
 }
 
-fn buffer() -> [u8; 16384]
-    ensures { 16384 ≡ length result }
-{
-    [0; 16384]
-}
-
-// The last state of a run, and whether all of its text was written.
-#[derive(Drop)]
-struct Written {
-    last: State,
-    outcome: io::Result<()>,
-}
-
-// Writes the text that is to come, piece after piece, and answers the last state: it ends only where nothing is left. After a write that fails nothing more is
-// written.
-fn write_pieces(first: State, out: &mut [u8], to: &mut impl Write) -> Written
+// Writes the text that is to come, piece after piece, and answers the last state: it ends only where nothing is left, or where a write fails.
+fn write_pieces(first: State, out: &mut [u8], to: &mut impl Write) -> io::Result<State>
     requires { Good first × (4096 ≤ length out.old) }
-    ensures { remaining result.last ≡ [] }
+    ensures { IfOk result (λ last. remaining last ≡ []) }
 {
     let mut state = first;
-    let mut outcome = Ok(());
+    // One piece after another until one is empty: no index is counted.
     loop {
         let step = piece(state, out);
-        let len = step.len;
         state = step.next;
-        if len == 0 {
-            return Written {
-                last: state,
-                outcome,
-            };
+        if step.len == 0 {
+            return Ok(state);
         }
-        if outcome.is_ok() {
-            outcome = to.write_all(&out[..len]);
-        }
+        to.write_all(&out[..step.len])?;
     }
 }
 
@@ -75,7 +54,7 @@ fn write_pieces(first: State, out: &mut [u8], to: &mut impl Write) -> Written
 pub fn run(rt: &(impl Input + Print)) -> io::Result<()> {
     let mut input = [0u8; 4];
     let len = input::read_full(&mut rt.reader(), &mut input);
-    let mut out = buffer();
-    let written = write_pieces(start(&input[..len]), &mut out, &mut io::writer(rt));
-    written.outcome
+    let mut out = [0u8; 16384];
+    write_pieces(start(&input[..len]), &mut out, &mut io::writer(rt))?;
+    Ok(())
 }

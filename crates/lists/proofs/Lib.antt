@@ -2,10 +2,10 @@
 pub mod Tests
 pub mod Comparison
 pub mod Lex
+pub mod Ordering
 pub mod Permute
 pub mod Sorting
 pub mod Blocks
-pub mod Shifting
 pub mod Members
 pub mod Places
 pub mod Rising

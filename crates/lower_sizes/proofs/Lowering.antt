@@ -2,6 +2,7 @@
 use mathlib.Core.Path.{◌≡◌, refl, ap, sym, ◌∙◌}
 use mathlib.Core.List.{List, [], ◌∷◌, ◌++◌}
 use mathlib.Core.Option.{none, some}
+use Rattle.std.specs.Prelude.{Some, None}
 use Prim.Native.Nat.{ℕ, zero, suc, ◌+◌, ◌-◌, ◌/◌, ◌≤◌, ◌<◌}
 use native.Mathlib.Numerals.{add-one}
 use native.Mathlib.Omega.{arith}
@@ -51,8 +52,8 @@ unfolding previous_sizes
 nothing-before a = refl
 
 -- no sizes
-pub none-empty : (sizes : List ℕ) (m : ℕ) → m ≡ 0 → NextIn (previous_sizes 1 (take m sizes)) 0 sizes
-none-empty sizes m e = rw (e, nothing-before 1) refl
+pub none-empty : (sizes : List ℕ) (m : ℕ) → m ≡ 0 → NextIn (previous_sizes 1 (take m sizes)) None sizes
+none-empty sizes m e = rw (e, nothing-before 1) tt
 
 -- two numbers written from place i on
 two-written : (sizes : List ℕ) (i j k a b : ℕ) → j ≡ suc i → k ≡ suc j → j < length sizes → take k (set (set sizes i a) j b) ≡ take i sizes ++ (a ∷ b ∷ [])
@@ -69,7 +70,7 @@ module _ (sizes : List ℕ) (m i : ℕ) (l : List ℕ) (a b : ℕ) (p : take m s
       ∙ previous_sizes-at 0 1 (take i sizes) (get_or sizes i 0) l (a ∷ b ∷ []) e (ap (λ x. lower_sizes x (get_or sizes i 0) l) (left-taken 0 1 sizes i h) ∙ f)
 
   gives-way : previous_sizes (get_or sizes i 0) l ≡ none → lower_sizes (left_of 0 1 sizes i) (get_or sizes i 0) l ≡ some (a ∷ b ∷ [])
-      → (j k : ℕ) → j ≡ suc i → k ≡ suc j → j < length sizes → NextIn (previous_sizes 1 (take m sizes)) k (set (set sizes i a) j b)
+      → (j k : ℕ) → j ≡ suc i → k ≡ suc j → j < length sizes → NextIn (previous_sizes 1 (take m sizes)) (Some k) (set (set sizes i a) j b)
   gives-way e f j k q r h =
       rw (given-way (omega arith) e f) (omega arith, simp length-set (omega arith), two-written sizes i j k a b q r h)
 
@@ -99,7 +100,7 @@ module _ {sizes : List ℕ} {m : ℕ} (s : SizesIn sizes m) (i : ℕ) (e : m ≡
 
   -- the lesser half stands first
   pub half-written : left_of 0 1 sizes i + left_of 0 1 sizes i ≤ last → (a b k : ℕ) → a ≡ last / 2 → b ≡ last - last / 2 → k ≡ suc m
-      → NextIn (previous_sizes 1 (take m sizes)) k (set (set sizes i a) m b)
+      → NextIn (previous_sizes 1 (take m sizes)) (Some k) (set (set sizes i a) m b)
   half-written h a b k p q r =
       gives-way sizes m i [] a b last_apart (nothing-before last) (rw (p, q) (half-some (left_of 0 1 sizes i) last h)) m k e r (half_room h)
 
@@ -149,10 +150,7 @@ module _ {before : List ℕ} {m : ℕ} {sizes : List ℕ} {i rest : ℕ} (w : Lo
     stays-right : previous_sizes size w.right ≡ none
     stays-right = ap (λ k. previous_sizes (left_of 0 1 sizes k) w.right) (sym e) ∙ w.stays
 
-    -- the number at the next place is positive, and the sums are small
-    pub lowering-positive : 0 < size
-    lowering-positive = left-positive sizes m (suc j) w.held (omega (arith, w.place))
-
+    -- the sums are small
     pub lowering_small : rest + size ≤ 200
     lowering_small =
         omega (arith, w.is, w.held.room, w.held.small, ap sum apart, total-append (λ x. x) (take j sizes) (size ∷ w.right))
@@ -173,16 +171,9 @@ module _ {before : List ℕ} {m : ℕ} {sizes : List ℕ} {i rest : ℕ} (w : Lo
 
     -- it falls
     pub lowering-found : left_of 0 1 sizes j < size → (a b k : ℕ) → a ≡ size - 1 → b ≡ rest + 1 → k ≡ suc (j + 1)
-        → NextIn (previous_sizes 1 (take m before)) k (set (set sizes j a) (j + 1) b)
+        → NextIn (previous_sizes 1 (take m before)) (Some k) (set (set sizes j a) (j + 1) b)
     lowering-found h a b k p q r =
         let f : b ≡ suc (sum w.right) = omega (arith, w.is) in
         rw (← w.same)
         (gives-way sizes m j w.right a b apart stays-right (rw (p, f) (fall-some (left_of 0 1 sizes j) size w.right w.some_right h))
         (j + 1) k (add-one j) r (omega (arith, within)))
-
-  -- no number can fall
-  pub lowering-end : i ≡ 0 → NextIn (previous_sizes 1 (take m before)) 0 sizes
-  lowering-end e =
-      let p : take m sizes ≡ w.right = w.parts ∙ ap (λ k. take k sizes ++ w.right) e in
-      let q : previous_sizes 1 w.right ≡ none = ap (λ k. previous_sizes (left_of 0 1 sizes k) w.right) (sym e) ∙ w.stays in
-      rw (← w.same, p, q) refl

@@ -6,13 +6,11 @@ ghost use Rattle.component_theory.specs.Successor.{last_component};
 ghost use Rattle.system_theory.specs.StepBack.{lasts};
 ghost use Rattle.size_lists.specs.SizesHeld.{sum};
 
-use lists::set_all;
-
 // The last component of as many points as the slice has places: the last two of the points of a cycle are merged.
 fn last_component(out: &mut [u8])
     ensures { out.new ≡ flat (last_component (length out.old)) }
 {
-    set_all(out, 1);
+    out.fill(1);
     let size = out.len();
     if 2 <= size {
         out[size - 2] = 2;
@@ -24,12 +22,10 @@ pub fn last_right(sizes: &[u8], trees: &mut [u8])
     requires { sum sizes.now ≡ length trees.old }
     ensures { trees.new ≡ gather flat (lasts sizes.now) }
 {
-    let mut i = 0;
     let mut at = 0;
-    while i < sizes.len() {
-        let end = at + sizes[i] as usize;
+    for size in sizes {
+        let end = at + *size as usize;
         last_component(&mut trees[at..end]);
         at = end;
-        i += 1;
     }
 }

@@ -17,6 +17,7 @@ fn tree_images(trees: &[u8], p: usize, out: &mut [u8])
 {
     let end = p + trees[p] as usize;
     let mut q = p + 1;
+    // The place moves by the size of a branch: no index is counted.
     while q < end {
         out[q] = p as u8;
         tree_images(trees, q, out);
@@ -28,10 +29,7 @@ fn tree_images(trees: &[u8], p: usize, out: &mut [u8])
 fn root_image(start: usize, end: usize, q: usize) -> usize
     ensures { result ≡ cond (ltb q end) q start }
 {
-    if q < end {
-        return q;
-    }
-    start
+    if q < end { q } else { start }
 }
 
 // Writes the images of the points of the component from `start` to `end`.
@@ -41,6 +39,7 @@ fn cycle_images(trees: &[u8], start: usize, end: usize, out: &mut [u8])
         → out.new ≡ placed start (cycle_images start start c) out.old }
 {
     let mut p = start;
+    // The place moves by the size of a tree: no index is counted.
     while p < end {
         let q = p + trees[p] as usize;
         out[p] = root_image(start, end, q) as u8;
@@ -54,12 +53,10 @@ pub fn map_of(sizes: &[u8], trees: &[u8], out: &mut [u8])
     requires { MapAsked sizes.now trees.now out.old }
     ensures { (S : System) → Holds S sizes.now trees.now → out.new ≡ map_of S }
 {
-    let mut i = 0;
     let mut start = 0;
-    while i < sizes.len() {
-        let end = start + sizes[i] as usize;
+    for size in sizes {
+        let end = start + *size as usize;
         cycle_images(trees, start, end, out);
         start = end;
-        i += 1;
     }
 }

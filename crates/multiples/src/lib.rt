@@ -11,6 +11,7 @@ fn lcm(a: u64, b: u64) -> u64
     ensures { result ≡ lcm_of a b }
 {
     let mut multiple = a;
+    // A `while`, since it goes through multiples and counts no index: (1..) would need a bound, and a product in place of each sum.
     while multiple % b != 0 {
         multiple += a;
     }
@@ -23,10 +24,8 @@ pub fn lcm_of_all(s: &[u8]) -> u64
     ensures { result ≡ lcm_from 1 s.now }
 {
     let mut multiple = 1u64;
-    let mut i = 0;
-    while i < s.len() {
-        multiple = lcm(multiple, s[i] as u64);
-        i += 1;
+    for x in s {
+        multiple = lcm(multiple, u64::from(*x));
     }
     multiple
 }

@@ -12,14 +12,13 @@ ghost use Rattle.page_entry.specs.HeldCopies.{HeldCopies};
 use acceptance::accept_into;
 use paging::{page_length, write_page};
 use patterns::{Page, Refusal, points_room};
-use reading::Accepted;
 
 // `room` bytes are too few for the page. 1,000 bytes hold every code [document 01, "The written code"], so it is measured only where there are fewer for each;
-// the system is taken by value, since measuring moves it on.
+// the system is taken by value, two arrays with their lengths, since measuring moves it on and there is no heap.
 fn lacks_room(
-    sizes: [u8; 200],
+    mut sizes: [u8; 200],
     m: usize,
-    trees: [u8; 200],
+    mut trees: [u8; 200],
     n: usize,
     wanted: usize,
     room: usize,
@@ -30,43 +29,37 @@ fn lacks_room(
     if 1000 * wanted <= room {
         return false;
     }
-    let mut copy = sizes;
-    let mut trees_copy = trees;
-    room < page_length(&mut copy, m, &mut trees_copy[..n], wanted)
+    room < page_length(&mut sizes, m, &mut trees[..n], wanted)
 }
 
 // Puts the page into the first places of `out`, where there is room for all of it.
 fn put_page(
-    sizes: [u8; 200],
+    mut sizes: [u8; 200],
     m: usize,
-    trees: [u8; 200],
+    mut trees: [u8; 200],
     n: usize,
     wanted: usize,
     out: &mut [u8],
-) -> Page
+) -> Result<Page, Refusal>
     requires { HeldCopies sizes m trees n wanted }
     ensures { (S : System) → Holds S (take m sizes) (take n trees)
         → PageReplied (done (successors wanted S)) out.old (page_answer result) out.new }
 {
     if lacks_room(sizes, m, trees, n, wanted, out.len()) {
-        return Page::Refused(Refusal::Room);
+        return Err(Refusal::Room);
     }
-    let mut copy = sizes;
-    let mut trees_copy = trees;
-    write_page(&mut copy, m, &mut trees_copy[..n], wanted, out)
+    Ok(write_page(&mut sizes, m, &mut trees[..n], wanted, out))
 }
 
 // Writes the next `wanted` codes after `code`, one after another, and says how many they are and how many bytes they take.
-pub fn page(code: &[u8], wanted: usize, out: &mut [u8]) -> Page
+pub fn page(code: &[u8], wanted: usize, out: &mut [u8]) -> Result<Page, Refusal>
     ensures { PageReplied (page_of wanted code.now) out.old (page_answer result) out.new }
 {
     if 1000 < wanted {
-        return Page::Refused(Refusal::Wanted);
+        return Err(Refusal::Wanted);
     }
     let mut sizes = points_room();
     let mut trees = points_room();
-    match accept_into(code, &mut sizes, &mut trees) {
-        Accepted::Refused(cause) => Page::Refused(cause),
-        Accepted::System(m, n) => put_page(sizes, m, trees, n, wanted, out),
-    }
+    let read = accept_into(code, &mut sizes, &mut trees)?;
+    put_page(sizes, read.components, trees, read.points, wanted, out)
 }

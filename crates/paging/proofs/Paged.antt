@@ -1,6 +1,7 @@
 -- A page, one code after another: the codes that were gone past, and what is still to come.
 use mathlib.Core.Path.{◌≡◌, refl, ap, ap₂, sym, ◌∙◌}
 use mathlib.Core.List.{List, [], ◌∷◌, ◌++◌, append_assoc, append-nil}
+use Rattle.std.specs.Prelude.{Some, None, Option as Number}
 use Prim.Native.Nat.{ℕ, suc, ◌+◌, ◌-◌, ◌≤◌, ◌<◌}
 use native.Mathlib.Nat.{sub-zero}
 use native.Mathlib.Omega.{arith}
@@ -16,8 +17,6 @@ use Rattle.system_theory.specs.Step.{step}
 use Rattle.system_theory.proofs.Step.{step_keeps}
 use Rattle.system_theory.proofs.Successors.{successors-step, successors-last, successors-none}
 use Rattle.form_theory.proofs.PageBytes.{page-fits}
-use Rattle.stepping.specs.declared.Stepped.{Stepped}
-use Rattle.stepping.specs.declared.Stepped.TheVariants.{To, Ended}
 use Rattle.stepping.specs.HeldSteps.{HeldNext, SteppedTo}
 use Rattle.stepping.proofs.Following.{next-canonical, step-over, next-again, next-is}
 use Rattle.written.specs.Putting.{Placed}
@@ -77,16 +76,16 @@ module _ {S : System} {wanted : ℕ} {sizes : List ℕ} {k : ℕ} {trees : List 
       let z : wanted - i ≡ 0 = omega arith in
       p.page ∙ ap (made ++◌) (rw z (successors-none p.held.system)) ∙ append-nil made
 
-  module _ (r : Stepped) (sizes' trees' : List ℕ) (f : (T : System) → Holds T (take k sizes) trees → SteppedTo (step T) r sizes' trees') where
+  module _ (r : Number ℕ) (sizes' trees' : List ℕ) (f : (T : System) → Holds T (take k sizes) trees → SteppedTo (step T) r sizes' trees') where
     -- all that there are
-    pub paged-last : r ≡ Ended → successors wanted S ≡ made
+    pub paged-last : r ≡ None → successors wanted S ≡ made
     paged-last e =
         let h = p.held in
         p.page
         ∙ ap (made ++◌) (successors-last h.system h.canonical_is (wanted - i) (step-over step r sizes' trees' f e h.system h.holds))
         ∙ append-nil made
 
-    module _ (j : ℕ) (e : r ≡ To j) (same : length sizes' ≡ length sizes) (more : i < wanted) where
+    module _ (j : ℕ) (e : r ≡ Some j) (same : length sizes' ≡ length sizes) (more : i < wanted) where
       abbrev next : HeldNext sizes' j trees'
       next = next-again step_keeps p.held r sizes' trees' f j e same
 
@@ -178,13 +177,13 @@ module _ {S : System} {wanted : ℕ} {before sizes : List ℕ} {k : ℕ} {trees 
   writing-same = placed_same had-fits w.had
 
   -- the page is what was written
-  pub writing-put : successors wanted S ≡ w.made → PagePut (successors wanted S) before (page_is i at) out
-  writing-put e =
+  pub writing-put : {codes : ℕ} → codes ≡ i → successors wanted S ≡ w.made → PagePut (successors wanted S) before (page_is codes at) out
+  writing-put c e =
       let page = successors wanted S in
       let z : 0 + length (page_bytes page) ≡ length (page_bytes page) = omega arith in
       let had : Placed (page_bytes page) 0 before at out = rw e w.had in
       record {
-        reply = ap₂ page_is (sym w.paged.count ∙ ap length (sym e)) (had.end ∙ z);
+        reply = ap₂ page_is (c ∙ sym w.paged.count ∙ ap length (sym e)) (had.end ∙ z);
         output = had.output ∙ ap (λ n. page_bytes page ++ drop n before) z;
       }
 

@@ -5,8 +5,8 @@ ghost use Rattle.patterns.specs.Page.{successors, page_bytes};
 ghost use Rattle.memory.specs.Memory.{Holds};
 ghost use Rattle.paging.specs.HeldPages.{HeldPage};
 
-use stepping::{Stepped, follow};
-use writing::system_length;
+use stepping::follow;
+use writing::StoredSystem;
 
 // How many bytes the next `wanted` codes take. Memory then holds the last of them.
 pub fn page_length(sizes: &mut [u8], m: usize, trees: &mut [u8], wanted: usize) -> usize
@@ -16,14 +16,13 @@ pub fn page_length(sizes: &mut [u8], m: usize, trees: &mut [u8], wanted: usize) 
 {
     let mut k = m;
     let mut bytes = 0;
-    let mut i = 0;
-    while i < wanted {
-        let Stepped::To(count) = follow(sizes, k, trees) else {
+    for _ in 0..wanted {
+        let Some(count) = follow(sizes, k, trees) else {
             return bytes;
         };
-        bytes += system_length(&sizes[..count], trees);
+        let sizes = &sizes[..count];
+        bytes += StoredSystem { sizes, trees }.length();
         k = count;
-        i += 1;
     }
     bytes
 }

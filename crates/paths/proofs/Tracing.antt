@@ -3,18 +3,21 @@ use mathlib.Core.Path.{◌≡◌, refl, ap, ap₂, sym, ◌∙◌}
 use mathlib.Core.Bool.{Bool, true, false, not, cond, true≢false}
 use mathlib.Core.List.{List, [], ◌∷◌, ◌++◌, append_assoc, append-nil}
 use Prim.Native.Nat.{Ordering}
-use Prim.Native.Nat.{ℕ, zero, suc, ◌+◌, ◌-◌, ◌%◌, ◌≤◌, ◌<◌, compare}
+use Prim.Native.Nat.{ℕ, suc, ◌+◌, ◌-◌, ◌%◌, ◌≤◌, ◌<◌, min, compare}
 use native.Mathlib.Omega.{arith}
-use native.Mathlib.Numerals.{add-one}
 use lib.Dec.{eqb}
-use borrow.Author.Tests.{eq-eqb, ne_eqb, eqb-true, eqb-false}
-use lib.ListN.{length, get_or, set, take, drop, replicate, length-drop, length-append, length-replicate, length-set, drop_of_length-le}
+use borrow.Author.Tests.{eq-eqb, ne_eqb}
+use lib.ListN.{length, set, take, drop, replicate, length-drop, length-append, length-replicate, length-set, drop_of_length-le}
 use lib.Seq.{drop-cons, drop-length, get_or-set_same, drop-set-lt, take_all}
 use Rattle.lists.specs.Order.{then, at_most, lex_by}
 use Rattle.lists.specs.Blocks.{ordering_of}
-use Rattle.lists.specs.declared.Order.{Order}
 use Rattle.lists.proofs.Tests.{by-test}
-use Rattle.lists.proofs.Comparison.{compare-lt, compare-gt, compare_self}
+use Rattle.lists.proofs.Comparison.{compare-lt, compare-gt, compare_self, by_order, lt-of-compare, eq-of-compare, gt-of-compare}
+use Rattle.lists.proofs.Ordering.{ordering_of-numbers}
+use Rattle.std.proofs.Common.{nat_cmp}
+use Rattle.std.specs.Ordering.{ordering_reverse, MatchOrdering}
+use Rattle.std.specs.declared.cmp.Ordering as cmp
+use Rattle.std.specs.declared.cmp.Ordering.TheVariants.{Less, Equal, Greater}
 use Rattle.patterns.specs.Tree.{point, merge, compare_tree}
 use Rattle.patterns.specs.Component.{Component, points, flat, valid_component}
 use Rattle.patterns.specs.Generation.{has_parent, parent}
@@ -25,7 +28,7 @@ use Rattle.trees.specs.Beginnings.{leading_points}
 use Rattle.trees.proofs.FirstPoints.{drop-points}
 use Rattle.paths.specs.HeldPaths.{HeldKeys, HeldPair, Traced}
 use Rattle.components.specs.Climbs.{Climbed}
-use Rattle.components.specs.declared.Climb.TheVariants.{Key}
+use Rattle.std.proofs.Common.{Some}
 use Rattle.component_theory.proofs.Lemma8.{lead, parent-points, parent-length}
 use Rattle.component_theory.proofs.Keys.{key_left, key_right}
 use Rattle.component_theory.proofs.Generation.{length-points}
@@ -37,20 +40,16 @@ use Rattle.component_theory.proofs.Paths.{parent-path, path-length, generated-pa
 abbrev pub even : ℕ → Bool
 even i = eqb (i % 2) 0
 
-even-next : (i : ℕ) → even (i + 1) ≡ not (even i)
-even-next i =
-    by-test (even i)
-    (λ e. let h = eqb-true (i % 2) 0 e in rw e (ne_eqb ((i + 1) % 2) 0 (λ q. omega arith)))
-    (λ e. let h = one (i % 2) (omega arith) (eqb-false (i % 2) 0 e) in rw e (eq-eqb ((i + 1) % 2) 0 (omega arith)))
-  where
-    one : (n : ℕ) → n < 2 → (n ≡ 0 → ⊥) → n ≡ 1
-    one zero h k = absurd (k refl)
-    one (suc n) h k = omega arith
+-- an answer turned round
+abbrev turned : Ordering → Ordering
+turned Ordering.lt = Ordering.gt
+turned Ordering.eq = Ordering.eq
+turned Ordering.gt = Ordering.lt
 
--- an answer by the flag
-pub ordering-cond : (b : Bool) (x y : Order) → ordering_of (cond b x y) ≡ cond b (ordering_of x) (ordering_of y)
-ordering-cond true x y = refl
-ordering-cond false x y = refl
+reversed : (o : cmp.Ordering) → ordering_of (ordering_reverse o) ≡ turned (ordering_of o)
+reversed Less = refl
+reversed Equal = refl
+reversed Greater = refl
 
 -- all before i is equal in both paths
 pub record Passed (a b : List ℕ) (i : ℕ) : Type 0 where
@@ -58,35 +57,7 @@ pub record Passed (a b : List ℕ) (i : ℕ) : Type 0 where
   pub in_b : i ≤ length b
   pub rest : lex_by compare not (even i) (drop i a) (drop i b) ≡ lex_by compare not true a b
 
-pub passed_start : (a b : List ℕ) → Passed a b 0
-passed_start a b = record { in_a = omega arith; in_b = omega arith; rest = refl }
-
 module _ {a b : List ℕ} {i : ℕ} (w : Passed a b i) where
-  here : i < length a → i < length b
-      → then (compare (get_or a i 0) (get_or b i 0)) (lex_by compare not (not (even i)) (drop (suc i) a) (drop (suc i) b)) ≡ lex_by compare not true a b
-  here h k = sym (ap₂ (lex_by compare not (even i)) (drop-cons a i 0 h) (drop-cons b i 0 k)) ∙ w.rest
-
-  pub passed-less : i < length a → i < length b → get_or a i 0 < get_or b i 0 → Ordering.lt ≡ lex_by compare not true a b
-  passed-less h k l =
-      sym (ap (λ o. then o (lex_by compare not (not (even i)) (drop (suc i) a) (drop (suc i) b))) (compare-lt (get_or a i 0) (get_or b i 0) l)) ∙ here h k
-
-  pub passed-greater : i < length a → i < length b → get_or b i 0 < get_or a i 0 → Ordering.gt ≡ lex_by compare not true a b
-  passed-greater h k l =
-      sym (ap (λ o. then o (lex_by compare not (not (even i)) (drop (suc i) a) (drop (suc i) b))) (compare-gt (get_or a i 0) (get_or b i 0) l)) ∙ here h k
-
-  pub passed-step : i < length a → i < length b → get_or a i 0 ≤ get_or b i 0 → get_or b i 0 ≤ get_or a i 0 → Passed a b (i + 1)
-  passed-step h k l m =
-      let e : get_or b i 0 ≡ get_or a i 0 = omega arith in
-      let z : compare (get_or a i 0) (get_or b i 0) ≡ Ordering.eq = ap (compare (get_or a i 0)) e ∙ compare_self (get_or a i 0) in
-      record {
-        in_a = omega arith;
-        in_b = omega arith;
-        rest = ap (λ f. lex_by compare not f (drop (i + 1) a) (drop (i + 1) b)) (even-next i)
-            ∙ ap (λ n. lex_by compare not (not (even i)) (drop n a) (drop n b)) (add-one i)
-            ∙ sym (ap (λ o. then o (lex_by compare not (not (even i)) (drop (suc i) a) (drop (suc i) b))) z)
-            ∙ here h k;
-      }
-
   -- the second path ends first
   pub passed-longer : i < length a → length b ≤ i → cond (even i) Ordering.gt Ordering.lt ≡ lex_by compare not true a b
   passed-longer h k = sym (ap₂ (lex_by compare not (even i)) (drop-cons a i 0 h) (drop_of_length-le b k)) ∙ w.rest
@@ -97,6 +68,26 @@ module _ {a b : List ℕ} {i : ℕ} (w : Passed a b i) where
 
   pub passed-equal : length a ≤ i → length b ≤ i → Ordering.eq ≡ lex_by compare not true a b
   passed-equal h k = sym (ap₂ (lex_by compare not (even i)) (drop_of_length-le a h) (drop_of_length-le b k)) ∙ w.rest
+
+  -- no difference up to the end of the shorter path
+  module _ (m : i ≡ min (length a) (length b)) where
+    pub passed-even : i % 2 ≡ 0 → ordering_of (nat_cmp (length a) (length b)) ≡ lex_by compare not true a b
+    passed-even h =
+        let e : even i ≡ true = eq-eqb (i % 2) 0 h in
+        rw (ordering_of-numbers (length a) (length b))
+        (by_order (compare (length a) (length b))
+        (λ o. let l = lt-of-compare (length a) (length b) o in o ∙ rw e at (passed-shorter (omega arith) (omega arith)))
+        (λ o. let l = eq-of-compare (length a) (length b) o in o ∙ passed-equal (omega arith) (omega arith))
+        (λ o. let l = gt-of-compare (length a) (length b) o in o ∙ rw e at (passed-longer (omega arith) (omega arith))))
+
+    pub passed-odd : (i % 2 ≡ 0 → ⊥) → ordering_of (ordering_reverse (nat_cmp (length a) (length b))) ≡ lex_by compare not true a b
+    passed-odd h =
+        let e : even i ≡ false = ne_eqb (i % 2) 0 h in
+        rw (reversed (nat_cmp (length a) (length b)), ordering_of-numbers (length a) (length b))
+        (by_order (compare (length a) (length b))
+        (λ o. let l = lt-of-compare (length a) (length b) o in ap turned o ∙ rw e at (passed-shorter (omega arith) (omega arith)))
+        (λ o. let l = eq-of-compare (length a) (length b) o in ap turned o ∙ passed-equal (omega arith) (omega arith))
+        (λ o. let l = gt-of-compare (length a) (length b) o in ap turned o ∙ rw e at (passed-longer (omega arith) (omega arith))))
 
 -- Climbing.
 
@@ -193,12 +184,12 @@ module _ {s₀ keys₀ s keys : List ℕ} {trees lead at : ℕ} (w : Tracing s�
   pub tracing-end : at ≡ 0 → (c : Component) → s₀ ≡ flat c → Traced c at keys
   tracing-end h = ended (omega (arith, w.deep))
 
-  pub step-key : {k : ℕ} {s' : List ℕ} → Climbed w.reached (Key k) s' → k ≤ 400
+  pub step-key : {k : ℕ} {s' : List ℕ} → Climbed w.reached (Some k) s' → k ≤ 400
   step-key h =
       omega (arith, key-small w.reached h.0, h.2, length-points w.reached, ap length w.is, length-flat w.reached, w.small)
 
   -- one step up
-  pub tracing-step : {k h : ℕ} {s' : List ℕ} → 0 < at → h ≡ leading_points w.reached → Climbed w.reached (Key k) s'
+  pub tracing-step : {k h : ℕ} {s' : List ℕ} → 0 < at → h ≡ leading_points w.reached → Climbed w.reached (Some k) s'
       → Tracing s₀ keys₀ s' (set keys (at - 1) k) (trees + 1) h (at - 1)
   tracing-step {k} {s' = s'} p q h =
       let n : suc (at - 1) ≡ at = omega arith in
@@ -249,3 +240,17 @@ module _ (c d : Component) {s t : List ℕ} (e : s ≡ flat c) (f : t ≡ flat d
       sym
       (generated-paths c d (sym (ap valid_component p) ∙ v.0) (sym (ap valid_component q) ∙ v.1)
       ∙ ap (λ o. then o (lex_by compare not true (path c) (path d))) (ap (compare (points c)) n ∙ compare_self (points c)))
+
+  -- the numbers of points compared, and where they are equal the paths
+  pub generated-told : (o r : cmp.Ordering) → o ≡ nat_cmp (length s) (length t)
+      → MatchOrdering o (r ≡ Less) (ordering_of r ≡ lex_by compare not true (path c) (path d)) (r ≡ Greater)
+      → HeldPair s t → ordering_of r ≡ compare_generated c d
+  generated-told Less r q h p =
+      let n : compare (length s) (length t) ≡ Ordering.lt = sym (ordering_of-numbers (length s) (length t)) ∙ ap ordering_of (sym q) in
+      ap ordering_of h ∙ fewer-points (lt-of-compare (length s) (length t) n)
+  generated-told Equal r q h p =
+      let n : compare (length s) (length t) ≡ Ordering.eq = sym (ordering_of-numbers (length s) (length t)) ∙ ap ordering_of (sym q) in
+      h ∙ generated-by-paths p (sym (eq-of-compare (length s) (length t) n))
+  generated-told Greater r q h p =
+      let n : compare (length s) (length t) ≡ Ordering.gt = sym (ordering_of-numbers (length s) (length t)) ∙ ap ordering_of (sym q) in
+      ap ordering_of h ∙ more-points (gt-of-compare (length s) (length t) n)

@@ -27,14 +27,6 @@ pub record HeldPair (s t : List ℕ) : Type 0 where
   pub valid : length s ≡ length t → (valid_component first ≡ true) × (valid_component second ≡ true)
   pub small : (length s ≤ 200) × (length t ≤ 200)
 
--- two of equally many points, a buffer of as many bytes, and room for as many keys of each
-pub record HeldPaths (s t work keys others : List ℕ) : Type 0 where
-  pub pair : HeldPair s t
-  pub equal : length t ≡ length s
-  pub room : length work ≡ length s
-  pub key_room : length keys ≡ length s
-  pub other_room : length others ≡ length s
-
 -- the path of c stands in keys from r on
 pub record Traced (c : Component) (r : ℕ) (keys : List ℕ) : Type 0 where
   pub within : r ≤ length keys

@@ -1,5 +1,6 @@
 -- Entry "census of a map", computed: number of rows and distance differ, a length occurs twice, the greatest distance stands inside, and the cycles are met in another
 -- order than that of their lengths.
+use Rattle.std.specs.Prelude.{Ok, Err}
 use mathlib.Core.Path.{◌≡◌, refl, ◌∙◌}
 use mathlib.Core.List.{List, [], ◌∷◌, map}
 use Prim.Native.Nat.{ℕ}
@@ -10,7 +11,6 @@ use Rattle.patterns.specs.declared.Refusal.TheVariants.{Image}
 use Rattle.patterns.specs.Reading.{fault}
 use Rattle.patterns.specs.Table.{image}
 use Rattle.patterns.specs.Census.{Row, cycle_lengths, cycles_of, occurring, census_rows, steps_to_cycle, height}
-use Rattle.patterns.specs.declared.reply.Census.TheVariants.{Counted, Refused as NotCounted}
 use Rattle.patterns.specs.Replies.{number_of, length_is, refused, CensusAnswer, census_is, census_refused, census_answer, row_of}
 use Rattle.patterns.specs.Entry.{checked_table, census_of, census_answered, CensusReplied, ColumnsFilled, RowsReplied, ColumnsReplied}
 use Rattle.patterns.specs.SignedReplies.{CensusReported}
@@ -55,8 +55,8 @@ census-replied = record { reply = refl; output = refl }
 
 -- what each case of the reply says, and a struct of the lent list
 pub census-told :
-    (census_answer (Counted 3 2) ≡ census_is 3 2)
-    × (census_answer (NotCounted Image) ≡ census_refused 2)
+    (census_answer (Ok (record { rows = 3; height = 2 })) ≡ census_is 3 2)
+    × (census_answer (Err Image) ≡ census_refused 2)
     × (row_of (record { cycle_length = 4; cycles = 1 }) ≡ row 4 1)
 census-told = (refl, refl, refl)
 

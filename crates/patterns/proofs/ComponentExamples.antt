@@ -1,10 +1,10 @@
 -- Entry "component reader", computed: where a component's bytes begin and end in the code, and how many of its rotations equal it.
+use Rattle.std.specs.Prelude.{Ok, Err}
 use mathlib.Core.Path.{◌≡◌, refl}
 use mathlib.Core.List.{List, [], ◌∷◌}
 use Prim.Native.Nat.{ℕ}
 use lib.ListN.{replicate}
 use Rattle.patterns.specs.declared.Refusal.TheVariants.{NotCanonical, Position}
-use Rattle.patterns.specs.declared.reply.Stretch.TheVariants.{Part as Shows, Refused}
 use Rattle.patterns.specs.Tree.{point, merge}
 use Rattle.patterns.specs.Component.{rotation_symmetry}
 use Rattle.patterns.specs.Reading.{fault}
@@ -55,8 +55,8 @@ turns-of-each = (refl, refl, refl, refl)
 
 -- each number stands in its place: in the running reply, and told alone to callers in C
 pub numbers-in-place :
-    (part_answer (Shows 4 8 3) ≡ part_is 4 8 3)
-    × (part_answer (Refused Position) ≡ part_refused 9)
+    (part_answer (Ok (record { start = 4; end = 8; turns = 3 })) ≡ part_is 4 8 3)
+    × (part_answer (Err Position) ≡ part_refused 9)
     × (component_start various 1 ≡ length_is 4)
     × (component_end various 1 ≡ length_is 8)
     × (component_turns various 1 ≡ length_is 3)

@@ -1,4 +1,5 @@
 -- Entry "the system that runs longest", computed: codes that have the greatest period and codes that do not, and the order of the checks.
+use Rattle.std.specs.Prelude.{Ok, Err}
 use mathlib.Core.Path.{◌≡◌, refl, sym}
 use mathlib.Core.Bool.{true≢false}
 use mathlib.Core.List.{List, [], ◌∷◌, ◌++◌, map}
@@ -12,7 +13,6 @@ use Rattle.lists.specs.Select.{range}
 use Rattle.lists.proofs.Tests.{clash, each_member}
 use Rattle.lists.proofs.Members.{in-range}
 use Rattle.patterns.specs.declared.Refusal.TheVariants.{Count, Room, TooManyPoints}
-use Rattle.patterns.specs.declared.reply.GreatestPeriod.TheVariants.{Written, Refused}
 use Rattle.patterns.specs.Census.{greatest}
 use Rattle.patterns.specs.Generation.{cycle}
 use Rattle.patterns.specs.System.{System, canonical}
@@ -103,7 +103,7 @@ unfolding checked_request
 passed-unrefused (request_refused e) = clash cc
 
 -- what each case of the reply says
-pub greatest-replies : (greatest_answer (Written 9 6) ≡ greatest_is 9 6) × (greatest_answer (Refused TooManyPoints) ≡ greatest_refused 13)
+pub greatest-replies : (greatest_answer (Ok (record { length = 9; period = 6 })) ≡ greatest_is 9 6) × (greatest_answer (Err TooManyPoints) ≡ greatest_refused 13)
 greatest-replies = (refl, refl)
 
 -- and its two numbers for C: the length and the period, or the refusal in both

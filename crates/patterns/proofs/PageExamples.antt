@@ -1,11 +1,11 @@
 -- Entry "a page of codes", computed in the list of 3 points, which has seven codes.
+use Rattle.std.specs.Prelude.{Ok, Err}
 use mathlib.Core.Path.{◌≡◌, refl}
 use mathlib.Core.List.{List, [], ◌∷◌, ◌++◌, head-eq_of_cons-eq}
 use Prim.Native.Nat.{ℕ}
 use native.Mathlib.Omega.{arith}
 use lib.IntN.{ℤ, pos, neg_ℤ}
 use Rattle.patterns.specs.declared.Refusal.TheVariants.{Count, Wanted}
-use Rattle.patterns.specs.declared.reply.Page.TheVariants.{Written, Refused}
 use Rattle.patterns.specs.Replies.{PageAnswer, page_is, page_refused, page_answer}
 use Rattle.patterns.specs.Page.{page_of, PageReplied}
 use Rattle.patterns.specs.SignedReplies.{PageReported}
@@ -106,7 +106,7 @@ page-numbers = (
 )
 
 -- what the cases of the running reply say
-pub page-answers : (page_answer (Written 2 12) ≡ page_is 2 12) × (page_answer (Refused Count) ≡ page_refused 1) × (page_answer (Refused Wanted) ≡ page_refused 10)
+pub page-answers : (page_answer (Ok (record { codes = 2; bytes = 12 })) ≡ page_is 2 12) × (page_answer (Err Count) ≡ page_refused 1) × (page_answer (Err Wanted) ≡ page_refused 10)
 page-answers = (refl, refl, refl)
 
 -- whatever the reply says, the output is as it must be: a page is there, and a refusal has left all as it was

@@ -1,11 +1,11 @@
 -- Entry "one back", computed in the list of 3 points, which has seven codes.
+use Rattle.std.specs.Prelude.{Some, None, Ok, Err}
 use mathlib.Core.Path.{◌≡◌, refl}
 use mathlib.Core.List.{List, [], ◌∷◌, ◌++◌, head-eq_of_cons-eq}
 use Prim.Native.Nat.{ℕ}
 use native.Mathlib.Omega.{arith}
 use lib.IntN.{ℤ, pos, neg_ℤ}
 use Rattle.patterns.specs.declared.Refusal.TheVariants.{Count, NotCanonical}
-use Rattle.patterns.specs.declared.reply.Predecessor.TheVariants.{Length, First, Refused}
 use Rattle.patterns.specs.Replies.{Answer, length_is, first_of_list, refused, predecessor_answer}
 use Rattle.patterns.specs.Entry.{Replied}
 use Rattle.patterns.specs.Predecessor.{predecessor_of}
@@ -87,8 +87,8 @@ unfolding predecessor_of
 back-numbers = (record { number = refl; output = refl }, record { number = refl; output = refl }, record { number = refl; output = refl })
 
 -- what the cases of the running reply say
-pub back-answers : (predecessor_answer (Length 6) ≡ length_is 6) × (predecessor_answer First ≡ first_of_list) × (predecessor_answer (Refused Count) ≡ refused 1)
-    × (predecessor_answer (Refused NotCanonical) ≡ refused 6)
+pub back-answers : (predecessor_answer (Ok (Some 6)) ≡ length_is 6) × (predecessor_answer (Ok None) ≡ first_of_list) × (predecessor_answer (Err Count) ≡ refused 1)
+    × (predecessor_answer (Err NotCanonical) ≡ refused 6)
 back-answers = (refl, refl, refl, refl)
 
 -- whatever the reply says, the output is as it must be: a code is there, and "first" has left all as it was

@@ -1,11 +1,9 @@
 -- Replies and lent buffers, computed: the numbers of the causes, the cases of a reply, a full buffer, one with a place left, and one a place too short.
+use Rattle.std.specs.Prelude.{Some, None, Ok, Err}
 use mathlib.Core.Path.{◌≡◌, refl}
 use mathlib.Core.List.{List, [], ◌∷◌, map}
 use Prim.Native.Nat.{ℕ}
 use Rattle.patterns.specs.declared.Refusal.TheVariants.{Count, Image, Truncated, NumberForm, Sizes, NotCanonical, Trailing, Room, Position, Wanted, TooLarge, Uncounted, TooManyPoints, LineForm, OutDegree}
-use Rattle.patterns.specs.declared.reply.Reply.TheVariants.{Length, Refused}
-use Rattle.patterns.specs.declared.reply.Successor.TheVariants.{Length as NextLength, Last, Refused as NoNext}
-use Rattle.patterns.specs.declared.reply.Isomorphism.TheVariants.{Points, Lacking, Refused as NotCompared}
 use Rattle.patterns.specs.Replies.{number_of, Answer, length_is, last, first_of_list, lacking, refused, answer_of, successor_answer, isomorphism_answer}
 use Rattle.patterns.specs.Entry.{Outcome, gives, ends, begins, lacks, fails, answered, filled}
 
@@ -20,14 +18,14 @@ line-causes-numbered = refl
 
 -- what each case of a running reply says
 pub replies-told :
-    (answer_of (Length 5) ≡ length_is 5)
-    × (answer_of (Refused Image) ≡ refused 2)
-    × (successor_answer (NextLength 5) ≡ length_is 5)
-    × (successor_answer Last ≡ last)
-    × (successor_answer (NoNext Sizes) ≡ refused 5)
-    × (isomorphism_answer (Points 5) ≡ length_is 5)
-    × (isomorphism_answer Lacking ≡ lacking)
-    × (isomorphism_answer (NotCompared Image) ≡ refused 2)
+    (answer_of (Ok 5) ≡ length_is 5)
+    × (answer_of (Err Image) ≡ refused 2)
+    × (successor_answer (Ok (Some 5)) ≡ length_is 5)
+    × (successor_answer (Ok None) ≡ last)
+    × (successor_answer (Err Sizes) ≡ refused 5)
+    × (isomorphism_answer (Ok (Some 5)) ≡ length_is 5)
+    × (isomorphism_answer (Ok None) ≡ lacking)
+    × (isomorphism_answer (Err Image) ≡ refused 2)
 replies-told = (refl, refl, refl, refl, refl, refl, refl, refl)
 
 -- the reply and the buffer afterwards

@@ -1,4 +1,5 @@
 -- How many tables have a code, computed.
+use Rattle.std.specs.Prelude.{Ok, Err}
 use mathlib.Core.Path.{◌≡◌, refl}
 use mathlib.Core.List.{List, [], ◌∷◌, map}
 use Prim.Native.Nat.{ℕ, ◌+◌, ◌≤◌, ◌<◌}
@@ -6,7 +7,6 @@ use lib.ListN.{replicate}
 use borrow.Author.Tests.{lt-ltb, le-ltb}
 use Rattle.lists.proofs.Tests.{cond-true, cond-false}
 use Rattle.patterns.specs.declared.Refusal.TheVariants.{Truncated, Sizes, NotCanonical, Uncounted}
-use Rattle.patterns.specs.declared.reply.Quantity.TheVariants.{Number, Refused}
 use Rattle.patterns.specs.System.{System, weight, codes}
 use Rattle.patterns.specs.Written.{written}
 use Rattle.patterns.specs.Reading.{done, fault}
@@ -47,7 +47,7 @@ sixteen-uncounted S h = cond-true _ _ (lt-ltb 15 (weight S) h)
 
 -- what each case of the reply says
 pub numbers-told :
-    (quantity_answer (Number 1307674368000) ≡ length_is 1307674368000)
-    × (quantity_answer (Refused Uncounted) ≡ refused 12)
-    × (quantity_answer (Refused Sizes) ≡ refused 5)
+    (quantity_answer (Ok 1307674368000) ≡ length_is 1307674368000)
+    × (quantity_answer (Err Uncounted) ≡ refused 12)
+    × (quantity_answer (Err Sizes) ≡ refused 5)
 numbers-told = (refl, refl, refl)

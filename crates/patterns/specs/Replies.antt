@@ -1,28 +1,14 @@
--- The replies of the public entries in document 01's words: document 01, "Refusing". Each running reply is an enum of src/reply.rt; a definition gives every
+-- The replies of the public entries in document 01's words: document 01, "Refusing". Each running reply is a type of src/reply.rt; a definition gives every
 -- case of it this paper's number and values, and the promises use that definition.
-use Rattle.std.specs.Prelude.{ℕ}
+use Rattle.std.specs.Prelude.{ℕ, Option, Some, None, Result, Ok, Err}
 use Rattle.patterns.specs.Census.{Row}
 use Rattle.patterns.specs.declared.Refusal.{Refusal}
 use Rattle.patterns.specs.declared.Refusal.TheVariants.{Count, Image, Truncated, NumberForm, Sizes, NotCanonical, Trailing, Room, Position, Wanted, TooLarge, Uncounted, TooManyPoints, LineForm, OutDegree}
-use Rattle.patterns.specs.declared.reply.Reply.{Reply}
-use Rattle.patterns.specs.declared.reply.Reply.TheVariants.{Length, Refused}
-use Rattle.patterns.specs.declared.reply.Successor.{Successor}
-use Rattle.patterns.specs.declared.reply.Successor.TheVariants.{Length as NextLength, Last, Refused as NoNext}
-use Rattle.patterns.specs.declared.reply.Predecessor.{Predecessor}
-use Rattle.patterns.specs.declared.reply.Predecessor.TheVariants.{Length as PreviousLength, First, Refused as NoPrevious}
 use Rattle.patterns.specs.declared.reply.Page.{Page}
-use Rattle.patterns.specs.declared.reply.Page.TheVariants.{Written, Refused as NoPage}
-use Rattle.patterns.specs.declared.reply.Isomorphism.{Isomorphism}
-use Rattle.patterns.specs.declared.reply.Isomorphism.TheVariants.{Points, Lacking, Refused as NotCompared}
 use Rattle.patterns.specs.declared.reply.Census.{Census}
-use Rattle.patterns.specs.declared.reply.Census.TheVariants.{Counted, Refused as NotCounted}
 use Rattle.patterns.specs.declared.reply.Row.{Row as RowStruct}
 use Rattle.patterns.specs.declared.reply.Stretch.{Stretch}
-use Rattle.patterns.specs.declared.reply.Stretch.TheVariants.{Part, Refused as NoPart}
-use Rattle.patterns.specs.declared.reply.Quantity.{Quantity}
-use Rattle.patterns.specs.declared.reply.Quantity.TheVariants.{Number, Refused as NoNumber}
 use Rattle.patterns.specs.declared.reply.GreatestPeriod.{GreatestPeriod}
-use Rattle.patterns.specs.declared.reply.GreatestPeriod.TheVariants.{Written as CodeWritten, Refused as NoCode}
 
 -- the table of causes; from 10 on document 02
 abbrev pub number_of : Refusal → ℕ
@@ -71,44 +57,44 @@ pub data GreatestAnswer : Type 0 where
   greatest_refused : ℕ → GreatestAnswer
 
 -- what each case of a reply says
-abbrev pub answer_of : Reply → Answer
-answer_of (Length n) = length_is n
-answer_of (Refused c) = refused (number_of c)
+abbrev pub answer_of : Result ℕ Refusal → Answer
+answer_of (Ok n) = length_is n
+answer_of (Err c) = refused (number_of c)
 
-abbrev pub successor_answer : Successor → Answer
-successor_answer (NextLength n) = length_is n
-successor_answer Last = last
-successor_answer (NoNext c) = refused (number_of c)
+abbrev pub successor_answer : Result (Option ℕ) Refusal → Answer
+successor_answer (Ok (Some n)) = length_is n
+successor_answer (Ok None) = last
+successor_answer (Err c) = refused (number_of c)
 
-abbrev pub predecessor_answer : Predecessor → Answer
-predecessor_answer (PreviousLength n) = length_is n
-predecessor_answer First = first_of_list
-predecessor_answer (NoPrevious c) = refused (number_of c)
+abbrev pub predecessor_answer : Result (Option ℕ) Refusal → Answer
+predecessor_answer (Ok (Some n)) = length_is n
+predecessor_answer (Ok None) = first_of_list
+predecessor_answer (Err c) = refused (number_of c)
 
-abbrev pub page_answer : Page → PageAnswer
-page_answer (Written codes bytes) = page_is codes bytes
-page_answer (NoPage c) = page_refused (number_of c)
+abbrev pub page_answer : Result Page Refusal → PageAnswer
+page_answer (Ok page) = page_is page.codes page.bytes
+page_answer (Err c) = page_refused (number_of c)
 
-abbrev pub isomorphism_answer : Isomorphism → Answer
-isomorphism_answer (Points n) = length_is n
-isomorphism_answer Lacking = lacking
-isomorphism_answer (NotCompared c) = refused (number_of c)
+abbrev pub isomorphism_answer : Result (Option ℕ) Refusal → Answer
+isomorphism_answer (Ok (Some n)) = length_is n
+isomorphism_answer (Ok None) = lacking
+isomorphism_answer (Err c) = refused (number_of c)
 
-abbrev pub census_answer : Census → CensusAnswer
-census_answer (Counted rows height) = census_is rows height
-census_answer (NotCounted c) = census_refused (number_of c)
+abbrev pub census_answer : Result Census Refusal → CensusAnswer
+census_answer (Ok census) = census_is census.rows census.height
+census_answer (Err c) = census_refused (number_of c)
 
-abbrev pub part_answer : Stretch → PartAnswer
-part_answer (Part start end turns) = part_is start end turns
-part_answer (NoPart c) = part_refused (number_of c)
+abbrev pub part_answer : Result Stretch Refusal → PartAnswer
+part_answer (Ok part) = part_is part.start part.end part.turns
+part_answer (Err c) = part_refused (number_of c)
 
-abbrev pub quantity_answer : Quantity → Answer
-quantity_answer (Number n) = length_is n
-quantity_answer (NoNumber c) = refused (number_of c)
+abbrev pub quantity_answer : Result ℕ Refusal → Answer
+quantity_answer (Ok n) = length_is n
+quantity_answer (Err c) = refused (number_of c)
 
-abbrev pub greatest_answer : GreatestPeriod → GreatestAnswer
-greatest_answer (CodeWritten length period) = greatest_is length period
-greatest_answer (NoCode c) = greatest_refused (number_of c)
+abbrev pub greatest_answer : Result GreatestPeriod Refusal → GreatestAnswer
+greatest_answer (Ok code) = greatest_is code.length code.period
+greatest_answer (Err c) = greatest_refused (number_of c)
 
 -- what a struct of the lent list of rows says
 abbrev pub row_of : RowStruct → Row

@@ -7,50 +7,33 @@ mod reply;
 ghost use Rattle.std.specs.Prelude.{◌≡◌, length};
 ghost use Rattle.patterns.specs.Replies.{number_of};
 
-pub use reply::{
-    Census, GreatestPeriod, Isomorphism, Page, Predecessor, Quantity, Reply, Row, Stretch,
-    Successor,
-};
+pub use reply::{Census, Found, GreatestPeriod, Page, Reply, Row, Stretch};
 
-#[derive(Clone, Copy)]
+// Why an entry refuses, with the number of the cause.
+#[derive(Clone, Copy, Debug, PartialEq, Eq, Hash)]
 pub enum Refusal {
-    Count,
-    Image,
-    Truncated,
-    NumberForm,
-    Sizes,
-    NotCanonical,
-    Trailing,
-    Room,
-    Position,
-    Wanted,
-    TooLarge,
-    Uncounted,
-    TooManyPoints,
-    LineForm,
-    OutDegree,
+    Count = 1,
+    Image = 2,
+    Truncated = 3,
+    NumberForm = 4,
+    Sizes = 5,
+    NotCanonical = 6,
+    Trailing = 7,
+    Room = 8,
+    Position = 9,
+    Wanted = 10,
+    TooLarge = 11,
+    Uncounted = 12,
+    TooManyPoints = 13,
+    LineForm = 14,
+    OutDegree = 15,
 }
 
-// The number of a cause.
-pub fn number(cause: Refusal) -> u8
-    ensures { result ≡ number_of cause }
-{
-    match cause {
-        Refusal::Count => 1,
-        Refusal::Image => 2,
-        Refusal::Truncated => 3,
-        Refusal::NumberForm => 4,
-        Refusal::Sizes => 5,
-        Refusal::NotCanonical => 6,
-        Refusal::Trailing => 7,
-        Refusal::Room => 8,
-        Refusal::Position => 9,
-        Refusal::Wanted => 10,
-        Refusal::TooLarge => 11,
-        Refusal::Uncounted => 12,
-        Refusal::TooManyPoints => 13,
-        Refusal::LineForm => 14,
-        Refusal::OutDegree => 15,
+impl From<Refusal> for u8 {
+    ghost from_gives = { λ cause n. n ≡ number_of cause };
+
+    fn from(cause: Refusal) -> u8 {
+        cause as u8
     }
 }
 

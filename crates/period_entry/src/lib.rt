@@ -1,49 +1,44 @@
 // The public entry that tells the period of a map [document 02, paper 8: round length].
 #![tactic(auto)]
 
-ghost use Rattle.std.specs.Prelude.{◌≡◌, length};
+ghost use Rattle.std.specs.Prelude.{◌≡◌, ◌≤◌, length};
 ghost use Rattle.patterns.specs.Table.{image};
 ghost use Rattle.patterns.specs.Replies.{quantity_answer, Answer.length_is};
 ghost use Rattle.patterns.specs.Entry.{answer};
-ghost use Rattle.patterns.specs.Period.{period as period_in, checked_small, period_of};
-ghost use Rattle.tables.specs.Tables.{table_reply};
-ghost use Rattle.period_entry.specs.SmallTables.{SmallTable};
+ghost use Rattle.patterns.specs.Period.{period as period_in, period_of};
+ghost use Rattle.period_entry.specs.SmallTables.{SmallChecked};
 
 use census::cycle_rows;
 use multiples::lcm_of_all;
-use patterns::{Quantity, Refusal, Reply};
-use tables::check_table;
+use patterns::Refusal;
+use tables::Table;
 
-// The period of the table `f`: the least common multiple of the cycle lengths that occur.
-fn period_in(f: &[u8]) -> u64
-    requires { SmallTable f.now }
-    ensures { result ≡ period_in (length f.now) (image f.now) }
+// The period of a table: the least common multiple of the cycle lengths that occur.
+fn period_in(table: Table) -> u64
+    requires { length table.images.now ≤ 120 }
+    ensures { result ≡ period_in (length table.entry.images.now) (image table.entry.images.now) }
 {
-    let rows = cycle_rows(f);
-    let lengths = rows.lengths;
-    let n = rows.rows;
-    lcm_of_all(&lengths[..n])
+    let rows = cycle_rows(table);
+    lcm_of_all(rows.lengths())
 }
 
-// The number of points of a table, or the cause of its refusal: first its length, which may be 120, then its bytes.
-fn check_small(table: &[u8]) -> Reply
-    ensures { result ≡ table_reply (checked_small table.now) }
+// The table whose images these are, or the cause of its refusal: first its length is checked, which may be 120, then its bytes.
+fn check_small(images: &[u8]) -> Result<Table, Refusal>
+    ensures { SmallChecked images.now result }
 {
-    if 200 < table.len() {
-        return Reply::Refused(Refusal::Count);
+    if 200 < images.len() {
+        return Err(Refusal::Count);
     }
-    if 120 < table.len() {
-        return Reply::Refused(Refusal::TooManyPoints);
+    if 120 < images.len() {
+        return Err(Refusal::TooManyPoints);
     }
-    check_table(table)
+    Table::check(images)
 }
 
 // The period of the map `table`.
-pub fn period(table: &[u8]) -> Quantity
+pub fn period(table: &[u8]) -> Result<u64, Refusal>
     ensures { quantity_answer result ≡ answer (period_of table.now) length_is }
 {
-    match check_small(table) {
-        Reply::Refused(cause) => Quantity::Refused(cause),
-        Reply::Length(_) => Quantity::Number(period_in(table)),
-    }
+    let small = check_small(table)?;
+    Ok(period_in(small))
 }

@@ -6,7 +6,7 @@ ghost use Rattle.lister.specs.Remaining.{remaining};
 ghost use Rattle.lister.specs.Good.{Good};
 ghost use Rattle.pieces.specs.Filled.{Filled};
 
-use lister::{State, Step, put_next};
+use lister::{State, Step};
 
 // A line is put only where this much room is left: a code of 1,000 bytes takes at most 4,000 and its position.
 pub const ROOM: usize = 4096;
@@ -18,8 +18,9 @@ pub fn piece(state: State, out: &mut [u8]) -> Step
 {
     let mut at = 0;
     let mut next = state;
+    // The place moves by the length of a line: no index is counted.
     while ROOM <= out.len() - at {
-        let step = put_next(next, out, at);
+        let step = next.put_next(out, at);
         if step.len == at {
             return step;
         }

@@ -10,10 +10,9 @@ ghost use Rattle.stepping.specs.HeldSteps.{HeldStep, HeldNext, SteppedTo};
 use falling::fall;
 use lower_sizes::{last_right, previous_sizes};
 use patterns::points_room;
-use stepping::Stepped;
 
-// The system that stands before in the list of all codes. `trees` holds the system, and the first m places of `sizes` its sizes; the first places of
-// `sizes` then hold as many as the answer says. The other three slices are for work alone.
+// The system that stands before in the list of all codes, where there is one. `trees` holds the system, and the first m places of `sizes` its sizes; the
+// first places of `sizes` then hold as many as the answer says. The other three slices are for work alone.
 fn previous_system(
     sizes: &mut [u8],
     m: usize,
@@ -21,24 +20,21 @@ fn previous_system(
     up: &mut [u8],
     side: &mut [u8],
     out: &mut [u8],
-) -> Stepped
+) -> Option<usize>
     requires { HeldStep sizes.old m trees.old up.old side.old out.old }
     ensures { (S : System) → Holds S (take m sizes.old) trees.old
         → SteppedTo (step_back_of S) result sizes.new trees.new }
 {
     if fall(&sizes[..m], trees, up, side, out) {
-        return Stepped::To(m);
+        return Some(m);
     }
-    let k = previous_sizes(sizes, m);
-    if k == 0 {
-        return Stepped::Ended;
-    }
+    let k = previous_sizes(sizes, m)?;
     last_right(&sizes[..k], trees);
-    Stepped::To(k)
+    Some(k)
 }
 
 // The same with work space of its own, where `sizes` has 200 places.
-pub fn precede(sizes: &mut [u8], m: usize, trees: &mut [u8]) -> Stepped
+pub fn precede(sizes: &mut [u8], m: usize, trees: &mut [u8]) -> Option<usize>
     requires { HeldNext sizes.old m trees.old }
     ensures { (S : System) → Holds S (take m sizes.old) trees.old
         → SteppedTo (step_back_of S) result sizes.new trees.new }

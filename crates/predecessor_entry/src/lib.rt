@@ -6,47 +6,35 @@ ghost use Rattle.lists.specs.Select.{previous};
 ghost use Rattle.patterns.specs.System.{System, weight, codes, compare_system};
 ghost use Rattle.patterns.specs.Entry.{Replied};
 ghost use Rattle.patterns.specs.Predecessor.{foregoing, predecessor_of};
-ghost use Rattle.patterns.specs.Replies.{answer_of, predecessor_answer};
+ghost use Rattle.patterns.specs.Replies.{predecessor_answer};
 ghost use Rattle.memory.specs.Memory.{Holds};
 ghost use Rattle.stepping.specs.HeldSteps.{HeldNext};
 
 use acceptance::accept_into;
-use patterns::{Predecessor, Reply, points_room};
+use patterns::{Found, points_room};
 use preceding::precede;
-use reading::Accepted;
-use stepping::Stepped;
-use writing::put_system;
-
-// The reply of a writing function as the reply of the predecessor entry.
-fn as_predecessor(reply: Reply) -> Predecessor
-    ensures { predecessor_answer result ≡ answer_of reply }
-{
-    match reply {
-        Reply::Length(n) => Predecessor::Length(n),
-        Reply::Refused(cause) => Predecessor::Refused(cause),
-    }
-}
+use writing::StoredSystem;
 
 // Puts the code that stands before the system into `out`; the first `m` places of `sizes` hold the sizes of its components.
-fn put_previous(sizes: &mut [u8], m: usize, trees: &mut [u8], out: &mut [u8]) -> Predecessor
+fn put_previous(sizes: &mut [u8], m: usize, trees: &mut [u8], out: &mut [u8]) -> Found
     requires { HeldNext sizes.old m trees.old }
     ensures { (S : System) → Holds S (take m sizes.old) trees.old
         → Replied (foregoing (previous compare_system S (codes (weight S)))) out.old (predecessor_answer result) out.new }
 {
-    match precede(sizes, m, trees) {
-        Stepped::Ended => Predecessor::First,
-        Stepped::To(k) => as_predecessor(put_system(&sizes[..k], trees, out)),
-    }
+    let Some(k) = precede(sizes, m, trees) else {
+        return Ok(None);
+    };
+    let sizes = &sizes[..k];
+    let length = StoredSystem { sizes, trees }.put(out)?;
+    Ok(Some(length))
 }
 
 // Writes the code that stands before `code` in the list of all codes of as many points, or says "first".
-pub fn predecessor(code: &[u8], out: &mut [u8]) -> Predecessor
+pub fn predecessor(code: &[u8], out: &mut [u8]) -> Found
     ensures { Replied (predecessor_of code.now) out.old (predecessor_answer result) out.new }
 {
     let mut sizes = points_room();
     let mut trees = points_room();
-    match accept_into(code, &mut sizes, &mut trees) {
-        Accepted::Refused(cause) => Predecessor::Refused(cause),
-        Accepted::System(m, n) => put_previous(&mut sizes, m, &mut trees[..n], out),
-    }
+    let read = accept_into(code, &mut sizes, &mut trees)?;
+    put_previous(&mut sizes, read.components, &mut trees[..read.points], out)
 }

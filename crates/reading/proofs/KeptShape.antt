@@ -1,4 +1,5 @@
 -- The shape of a code, by its first numbers and how many there are: that these decide, for any bound above the most numbers of a code of 200 points.
+use Rattle.std.specs.Prelude.{Result as Reply}
 use mathlib.Core.Path.{◌≡◌, refl, ap, ap₂, sym, ◌∙◌, subst}
 use mathlib.Core.Bool.{true, cond, ◌&&◌, ◌||◌}
 use mathlib.Core.List.{List, [], ◌∷◌}
@@ -7,6 +8,7 @@ use native.Mathlib.Omega.{arith}
 use lib.Dec.{ltb, eqb}
 use lib.ListN.{length, take, drop, length-drop}
 use borrow.Author.Tests.{lt-ltb, le-ltb, ltb-false}
+use Rattle.patterns.specs.declared.Refusal.{Refusal}
 use Rattle.patterns.specs.declared.Refusal.TheVariants.{Count, Truncated, Sizes, Trailing}
 use Rattle.lists.specs.Select.{each}
 use Rattle.patterns.specs.Component.{nonempty}
@@ -58,7 +60,7 @@ shape-kept (suc (suc k)) h (n ∷ m ∷ s) =
     ∙ same_then (read_components m n (take k s)) (λ S e. all-used S (length S + weight S) s)))
 
 -- more numbers are kept than a code of 200 points has, so they and their count decide
-pub kept_read : {s sizes trees : List ℕ} {count : ℕ} {r : Accepted} → AcceptedInto (kept_shape count s) r sizes trees
+pub kept_read : {s sizes trees : List ℕ} {count : ℕ} {r : Reply Accepted Refusal} → AcceptedInto (kept_shape count s) r sizes trees
     → (xs : List ℕ) → s ≡ take kept_numbers xs → count ≡ length xs → AcceptedInto (shape xs) r sizes trees
 kept_read {s} {sizes} {trees} {count} {r} a xs e n =
     subst (λ o. AcceptedInto o r sizes trees) (ap₂ kept_shape n e ∙ sym (shape-kept kept_numbers (omega arith) xs)) a

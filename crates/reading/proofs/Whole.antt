@@ -1,4 +1,5 @@
 -- A whole code, by its first numbers: n, m, the components, and what is left after them.
+use Rattle.std.specs.Prelude.{Result as Reply, Ok, Err}
 use mathlib.Core.Path.{◌≡◌, refl, ap, ap₂, sym, ◌∙◌}
 use mathlib.Core.Bool.{◌&&◌}
 use mathlib.Core.List.{List, [], ◌∷◌}
@@ -12,9 +13,6 @@ use Rattle.patterns.specs.declared.Refusal.{Refusal}
 use Rattle.patterns.specs.declared.Refusal.TheVariants.{Count, Truncated, Sizes, Trailing}
 use Rattle.patterns.specs.System.{System, weight}
 use Rattle.patterns.specs.Reading.{Result, done, fault, and_then, read_components}
-use Rattle.tree_reading.specs.declared.Read.{Read}
-use Rattle.tree_reading.specs.declared.Read.TheVariants.{Past, Refused}
-use Rattle.reading.specs.declared.Accepted.TheVariants.{System as Held, Refused as NotAccepted}
 use Rattle.reading.specs.Shape.{acceptance, AcceptedInto}
 use Rattle.component_reading.specs.ReadComponents.{walked_system, ReadInto}
 use Rattle.form_theory.proofs.ReadFrom.{components-read}
@@ -65,23 +63,23 @@ module _ (count : ℕ) where
   whole-body (n ∷ []) p h l = absurd (omega arith)
   whole-body (n ∷ m ∷ s) p h l = kept-components n m s h l
 
-  module _ (s sizes trees : List ℕ) (r : Read) (given : ReadInto 2 (read_components (get_or s 1 0) (get_or s 0 0) (drop 2 s)) r sizes trees)
+  module _ (s sizes trees : List ℕ) (r : Reply ℕ Refusal) (given : ReadInto 2 (read_components (get_or s 1 0) (get_or s 0 0) (drop 2 s)) r sizes trees)
       (p : 1 < length s) (h : get_or s 0 0 ≤ 200) (few : get_or s 1 0 ≤ get_or s 0 0) where
     -- a component is refused
-    pub whole-refused : (c : Refusal) → r ≡ Refused c → kept_shape count s ≡ fault c
+    pub whole-refused : (c : Refusal) → r ≡ Err c → kept_shape count s ≡ fault c
     whole-refused c q = whole-body s p h few ∙ of (read_components (get_or s 1 0) (get_or s 0 0) (drop 2 s)) _ (sym q ∙ given.reply)
       where
-        of : (o : Result System) (f : System → Result System) → Refused c ≡ walked_system 2 o → and_then o f ≡ fault c
+        of : (o : Result System) (f : System → Result System) → Err c ≡ walked_system 2 o → and_then o f ≡ fault c
         of (done S) f z = clash cc
         of (fault d) f z = let y : c ≡ d = cc in ap fault (sym y)
 
-    module _ (next : ℕ) (q : r ≡ Past next) where
+    module _ (next : ℕ) (q : r ≡ Ok next) where
       -- what was read: a system of m components and n points, up to place `next`
       read_whole : (S : System) × (read_components (get_or s 1 0) (get_or s 0 0) (drop 2 s) ≡ done S) × (length S ≡ get_or s 1 0) × (weight S ≡ get_or s 0 0)
           × (next ≡ 2 + (length S + weight S))
       read_whole = of (read_components (get_or s 1 0) (get_or s 0 0) (drop 2 s)) refl (sym q ∙ given.reply)
         where
-          of : (o : Result System) → read_components (get_or s 1 0) (get_or s 0 0) (drop 2 s) ≡ o → Past next ≡ walked_system 2 o
+          of : (o : Result System) → read_components (get_or s 1 0) (get_or s 0 0) (drop 2 s) ≡ o → Ok next ≡ walked_system 2 o
               → (S : System) × (read_components (get_or s 1 0) (get_or s 0 0) (drop 2 s) ≡ done S) × (length S ≡ get_or s 1 0) × (weight S ≡ get_or s 0 0)
               × (next ≡ 2 + (length S + weight S))
           of (done S) f z = let g = components-read (get_or s 1 0) (get_or s 0 0) (drop 2 s) S f in (S, f, g.1, g.2, cc)
@@ -97,16 +95,16 @@ module _ (count : ℕ) where
           whole-used ∙ rw (lt-ltb (suc (suc (length S + weight S))) count (omega (arith, read_whole.4)))
 
       -- no number is left
-      pub whole-done : count ≤ next → AcceptedInto (kept_shape count s) (Held (get_or s 1 0) (get_or s 0 0)) sizes trees
+      pub whole-done : count ≤ next → AcceptedInto (kept_shape count s) (Ok record { components = get_or s 1 0; points = get_or s 0 0 }) sizes trees
       whole-done l =
           let g = read_whole in
           let S = g.0 in
           let o : kept_shape count s ≡ done S = whole-used ∙ rw (le-ltb (suc (suc (length S + weight S))) count (omega (arith, g.4))) in
           record {
-            reply = ap₂ Held (sym g.2) (sym g.3) ∙ ap acceptance (sym o);
+            reply = ap₂ (λ m n. Ok record { components = m; points = n }) (sym g.2) (sym g.3) ∙ ap acceptance (sym o);
             held = λ R z. given.held R (g.1 ∙ sym o ∙ z);
           }
 
 -- a refusal, whatever the memory then holds
-pub refused-into : (o : Result System) (c : Refusal) (sizes trees : List ℕ) → o ≡ fault c → AcceptedInto o (NotAccepted c) sizes trees
+pub refused-into : (o : Result System) (c : Refusal) (sizes trees : List ℕ) → o ≡ fault c → AcceptedInto o (Err c) sizes trees
 refused-into o c sizes trees e = record { reply = rw e; held = λ S z. clash cc }

@@ -1,10 +1,10 @@
 -- The shape of a whole code: all that is checked of it but whether it is canonical. What the reader answers, and what it leaves in the lent memory.
-use Rattle.std.specs.Prelude.{◌≡◌, cond, ◌&&◌, ◌||◌, List, [], ◌∷◌, ℕ, ◌+◌, ltb, eqb, length, take, drop}
+use Rattle.std.specs.Prelude.{◌≡◌, cond, ◌&&◌, ◌||◌, List, [], ◌∷◌, ℕ, ◌+◌, ltb, eqb, length, take, drop, Result as Reply, Ok, Err}
+use Rattle.patterns.specs.declared.Refusal.{Refusal}
 use Rattle.patterns.specs.declared.Refusal.TheVariants.{Count, Truncated, Sizes, Trailing}
 use Rattle.patterns.specs.System.{System, weight}
 use Rattle.patterns.specs.Reading.{Result, done, fault, and_then, cut, read_components}
 use Rattle.reading.specs.declared.Accepted.{Accepted}
-use Rattle.reading.specs.declared.Accepted.TheVariants.{System as Held, Refused as NotAccepted}
 use Rattle.memory.specs.Memory.{Holds}
 
 -- no number is left after the system
@@ -41,11 +41,11 @@ abbrev pub kept_numbers : ℕ
 kept_numbers = most_numbers 200 + 1
 
 -- the number of components and the number of points
-abbrev pub acceptance : Result System → Accepted
-acceptance (done S) = Held (length S) (weight S)
-acceptance (fault c) = NotAccepted c
+abbrev pub acceptance : Result System → Reply Accepted Refusal
+acceptance (done S) = Ok record { components = length S; points = weight S }
+acceptance (fault c) = Err c
 
 -- the same for a whole code
-pub record AcceptedInto (o : Result System) (r : Accepted) (sizes trees : List ℕ) : Type 0 where
+pub record AcceptedInto (o : Result System) (r : Reply Accepted Refusal) (sizes trees : List ℕ) : Type 0 where
   pub reply : r ≡ acceptance o
   pub held : (S : System) → o ≡ done S → Holds S (take (length S) sizes) (take (weight S) trees)

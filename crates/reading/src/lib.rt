@@ -6,72 +6,58 @@ ghost use Rattle.std.specs.Prelude.{◌≡◌, List, ℕ, length, take};
 ghost use Rattle.reading.specs.Shape.{shape, code_shape, kept_numbers, AcceptedInto};
 
 use component_reading::read_components;
-use cutting::{Cut, cut_into};
+use cutting::cut_into;
 use patterns::Refusal;
-use tree_reading::Read;
 
 // How many numbers of a code are kept: `kept_numbers` of the definitions.
 const KEPT: usize = 403;
 
-// The number of components and the number of points, or the cause of a refusal.
-#[derive(Clone, Copy)]
-pub enum Accepted {
-    System(usize, usize),
-    Refused(Refusal),
+// How many components were read, and how many points they have.
+#[derive(Clone, Copy, Debug, PartialEq, Eq, Hash)]
+pub struct Accepted {
+    pub components: usize,
+    pub points: usize,
 }
 
 // The whole: n and m, the components, and nothing after them. That there is no component and some points needs no test of its own:
 // points are left over. `s` has the first KEPT of `count` numbers, or all where they are fewer; no more are looked at.
-pub fn read_system(s: &[u16], count: usize, sizes: &mut [u8], trees: &mut [u8]) -> Accepted
+pub fn read_system(
+    s: &[u16],
+    count: usize,
+    sizes: &mut [u8],
+    trees: &mut [u8],
+) -> Result<Accepted, Refusal>
     requires { (length sizes.old ≡ 200) × (length trees.old ≡ 200) }
     ensures { (xs : List ℕ) → s.now ≡ take kept_numbers xs → count ≡ length xs
         → AcceptedInto (shape xs) result sizes.new trees.new }
 {
-    if s.len() == 0 {
-        return Accepted::Refused(Refusal::Truncated);
+    if s.is_empty() {
+        return Err(Refusal::Truncated);
     }
-    let n = s[0] as usize;
-    if 200 < n {
-        return Accepted::Refused(Refusal::Count);
+    let points = usize::from(s[0]);
+    if 200 < points {
+        return Err(Refusal::Count);
     }
     if s.len() == 1 {
-        return Accepted::Refused(Refusal::Truncated);
+        return Err(Refusal::Truncated);
     }
-    let m = s[1] as usize;
-    if n < m {
-        return Accepted::Refused(Refusal::Sizes);
+    let components = usize::from(s[1]);
+    if points < components {
+        return Err(Refusal::Sizes);
     }
-    match read_components(s, 2, m, n, sizes, trees) {
-        Read::Refused(cause) => Accepted::Refused(cause),
-        Read::Past(next) => {
-            if next < count {
-                return Accepted::Refused(Refusal::Trailing);
-            }
-            Accepted::System(m, n)
-        }
+    let next = read_components(s, 2, components, points, sizes, trees)?;
+    if next < count {
+        return Err(Refusal::Trailing);
     }
-}
-
-// Room for the first numbers of a code.
-fn blank() -> [u16; KEPT]
-    ensures { length result ≡ kept_numbers }
-{
-    [0u16; KEPT]
+    Ok(Accepted { components, points })
 }
 
 // A written code, cut and read; the system goes into `sizes` and `trees`.
-pub fn read_code(code: &[u8], sizes: &mut [u8], trees: &mut [u8]) -> Accepted
+pub fn read_code(code: &[u8], sizes: &mut [u8], trees: &mut [u8]) -> Result<Accepted, Refusal>
     requires { (length sizes.old ≡ 200) × (length trees.old ≡ 200) }
     ensures { AcceptedInto (code_shape code.now) result sizes.new trees.new }
 {
-    let mut first = blank();
-    match cut_into(code, &mut first) {
-        Cut::Refused(cause) => Accepted::Refused(cause),
-        Cut::Number(count, _) => {
-            if count < KEPT {
-                return read_system(&first[..count], count, sizes, trees);
-            }
-            read_system(&first, count, sizes, trees)
-        }
-    }
+    let mut first = [0u16; KEPT];
+    let count = cut_into(code, &mut first)?;
+    read_system(&first[..count.min(KEPT)], count, sizes, trees)
 }

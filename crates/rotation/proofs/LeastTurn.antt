@@ -9,18 +9,33 @@ use lib.Dec.{is_le, ltb}
 use lib.ListN.{length, get_or, take, drop, length-drop, take-append-drop}
 use lib.Seq.{take_all, drop-drop, take-append-add, length-take-le, take_at, drop_at}
 use borrow.Author.Tests.{ltb-true, ltb-false}
+use Rattle.std.specs.Ordering.{MatchOrdering, is_le as at_most_equal}
+use Rattle.std.specs.declared.cmp.Ordering as cmp
+use Rattle.std.specs.declared.cmp.Ordering.TheVariants.{Less, Equal, Greater}
+use Rattle.lists.specs.Blocks.{ordering_of}
 use Rattle.lists.specs.Order.{lex, then, at_most}
 use Rattle.lists.specs.Select.{each}
 use Rattle.lists.proofs.Lex.{lex-append}
 use Rattle.lists.proofs.Tests.{by-test, either, each_member}
 use Rattle.lists.proofs.Members.{in_list}
-use Rattle.lists.proofs.Comparison.{at_most-self, at_most-turned, at_most-trans}
+use Rattle.lists.proofs.Comparison.{then-assoc, at_most-self, at_most-turned, at_most-trans}
 use Rattle.patterns.specs.Tree.{Tree, size}
 use Rattle.patterns.specs.Component.{Component, points, flat, compare_component, rotations, nonempty}
 use Rattle.patterns.proofs.Trees.{size-positive, length-flat, flat_append, points-append, compare_component-lawful, compare_component-flat}
 use Rattle.patterns.proofs.Rotations.{cuts, rotation-append}
 use Rattle.trees.proofs.Walks.{Along, Next, along-step, along-end, no-trees}
 use Rattle.rotation.specs.LeastStart.{LeastStart}
+
+-- an answer, and another one where it is equal
+pub chained : (o r : cmp.Ordering) (w : Ordering) → MatchOrdering o (r ≡ Less) (ordering_of r ≡ w) (r ≡ Greater) → ordering_of r ≡ then (ordering_of o) w
+chained Less r w h = ap ordering_of h
+chained Equal r w h = h
+chained Greater r w h = ap ordering_of h
+
+pub is_le-ordering_of : (r : cmp.Ordering) → at_most_equal r ≡ is_le (ordering_of r)
+is_le-ordering_of Less = refl
+is_le-ordering_of Equal = refl
+is_le-ordering_of Greater = refl
 
 -- a part of a list, and what follows it
 drop-part : {A : Type 0} (s : List A) (a e : ℕ) → a ≤ e → drop a s ≡ take (e - a) (drop a s) ++ drop e s
@@ -76,22 +91,18 @@ module _ (s : List ℕ) (a b : ℕ) (h : a ≤ b) (k : b ≤ length s) where
   abbrev whole : Bool
   whole = at_most (lex compare) (drop a s ++ take a s) (drop b s ++ take b s)
 
-  pub between-less : lex compare (take (e - a) (drop a s)) (take (n - b) (drop b s)) ≡ Ordering.lt → true ≡ whole
-  between-less q = sym (ap is_le pieces ∙ rw q)
+  abbrev pub one : Ordering
+  one = lex compare (take (e - a) (drop a s)) (take (n - b) (drop b s))
 
-  pub between-greater : lex compare (take (e - a) (drop a s)) (take (n - b) (drop b s)) ≡ Ordering.gt → false ≡ whole
-  between-greater q = sym (ap is_le pieces ∙ rw q)
+  abbrev pub two : Ordering
+  two = lex compare (take (n - e) (drop e s)) (take d s)
 
-  module _ (q : lex compare (take (e - a) (drop a s)) (take (n - b) (drop b s)) ≡ Ordering.eq) where
-    pub between-then-less : lex compare (take (n - e) (drop e s)) (take d s) ≡ Ordering.lt → true ≡ whole
-    between-then-less p = sym (ap is_le pieces ∙ rw (q, p))
+  abbrev pub three : Ordering
+  three = lex compare (take a s) (take (b - d) (drop d s))
 
-    pub between-then-greater : lex compare (take (n - e) (drop e s)) (take d s) ≡ Ordering.gt → false ≡ whole
-    between-then-greater p = sym (ap is_le pieces ∙ rw (q, p))
-
-    pub between-last : lex compare (take (n - e) (drop e s)) (take d s) ≡ Ordering.eq
-        → at_most (lex compare) (take a s) (take (b - d) (drop d s)) ≡ whole
-    between-last p = sym (ap is_le pieces ∙ rw (q, p))
+  -- the three pieces, compared one after another
+  pub between : is_le (then (then one two) three) ≡ whole
+  between = ap is_le (then-assoc one two three ∙ sym pieces)
 
 -- the bytes turned to begin at a place where a tree begins are those of the trees turned
 turned-flat : (s : List ℕ) (p : ℕ) (x y : Component) → s ≡ flat (x ++ y) → p ≡ points x → drop p s ++ take p s ≡ flat (y ++ x)

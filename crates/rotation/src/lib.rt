@@ -8,9 +8,8 @@ ghost use Rattle.patterns.specs.Component.{Component, flat};
 ghost use Rattle.memory.specs.Memory.{Held};
 ghost use Rattle.rotation.specs.LeastStart.{LeastStart};
 
-use components::{Rotation, least_rotation};
-use lists::{Order, compare};
-use trees::at_most;
+use components::least_rotation;
+use lists::compare;
 
 // `s` turned to begin at `a` is not greater than `s` turned to begin at `b`.
 fn at_most_between(s: &[u8], a: usize, b: usize) -> bool
@@ -20,15 +19,10 @@ fn at_most_between(s: &[u8], a: usize, b: usize) -> bool
     let n = s.len();
     let d = b - a;
     let e = n - d;
-    match compare(&s[a..e], &s[b..n]) {
-        Order::Less => true,
-        Order::Greater => false,
-        Order::Equal => match compare(&s[e..n], &s[..d]) {
-            Order::Less => true,
-            Order::Greater => false,
-            Order::Equal => at_most(&s[..a], &s[d..b]),
-        },
-    }
+    compare(&s[a..e], &s[b..n])
+        .then_with(|| compare(&s[e..n], &s[..d]))
+        .then_with(|| compare(&s[..a], &s[d..b]))
+        .is_le()
 }
 
 // Where the least rotation of the component begins, of all its beginnings.
@@ -38,6 +32,7 @@ fn least_found(s: &[u8]) -> usize
 {
     let mut best = 0;
     let mut p = 0;
+    // Kept: nothing is counted, the size of a tree leads on to the next, and the place of a tree is the answer.
     while p < s.len() {
         if !at_most_between(s, best, p) {
             best = p;
@@ -53,7 +48,7 @@ pub fn least_start(s: &[u8]) -> usize
     ensures { (c : Component) → s.now ≡ flat c → LeastStart c result }
 {
     match least_rotation(s) {
-        Rotation::Least(_) => 0,
-        Rotation::Lesser => least_found(s),
+        Some(_) => 0,
+        None => least_found(s),
     }
 }

@@ -1,13 +1,15 @@
 -- The last child before a place: the right merges downward, and then the left merges.
 use mathlib.Core.Path.{◌≡◌, refl, ap, sym, ◌∙◌, subst}
-use mathlib.Core.Logic.{inr}
+use mathlib.Core.Logic.{◌⊎◌, inl, inr}
+use lib.Dec.{leb}
+use Rattle.std.proofs.lemmas.Bool.Decides.{nat_tests}
 use mathlib.Core.Bool.{false}
 use mathlib.Core.List.{List, [], ◌∷◌}
-use Prim.Native.Nat.{ℕ, suc, ◌+◌, ◌-◌, ◌≤◌, ◌<◌}
+use Prim.Native.Nat.{ℕ, suc, ◌+◌, ◌-◌, ◌≤◌, ◌<◌, min}
 use native.Mathlib.Omega.{arith}
 use lib.ListN.{length}
 use Rattle.lists.specs.Select.{first}
-use Rattle.lists.proofs.Tests.{either}
+use Rattle.lists.proofs.Tests.{by-test, either}
 use Rattle.lists.proofs.Follow.{otherwise}
 use Rattle.patterns.specs.Tree.{point, merge}
 use Rattle.patterns.specs.Component.{Component, flat}
@@ -17,7 +19,7 @@ use Rattle.component_theory.specs.ChildPlaces.{child_at, child_before}
 use Rattle.component_theory.proofs.ChildPlaces.{child_before-start, child_before-step, child_before-lefts, child_before-rights, length-candidates}
 use Rattle.component_theory.proofs.Generation.{length-points}
 use Rattle.children.specs.Candidates.{Gave}
-use Rattle.scanning.specs.HeldNodes.{PlaceIn, HeldScan, Passed, Lesser}
+use Rattle.scanning.specs.HeldNodes.{PlaceIn, HeldScan, Passed}
 use Rattle.scanning.proofs.Scanning.{Scanned, passed-all, node-valid, candidates-count, scan-merge}
 
 -- one place down
@@ -37,6 +39,19 @@ module _ {s : List ℕ} {k j : ℕ} {out y : List ℕ} (x : List ℕ) (c : Compo
   -- before all right merges come the left ones
   pub right-none : (n : ℕ) → Scanned child_before s k (n + j) out y → Passed child_before c k n false x
   right-none n f = let z : n + j ≡ n = omega arith in passed-all c k n x (f.passed c e ∙ ap (child_before c) z)
+
+-- r is the lesser of a and b
+pub record Lesser (a b r : ℕ) : Type 0 where
+  pub left : r ≤ a
+  pub right : r ≤ b
+  pub one : (r ≡ a) ⊎ (r ≡ b)
+
+pub lesser-min : {a b r : ℕ} → r ≡ min a b → Lesser a b r
+lesser-min {a} {b} e = record {
+  left = omega arith;
+  right = omega arith;
+  one = by-test (leb a b) (λ h. inl (grind (arith, nat_tests))) (λ h. inr (grind (arith, nat_tests)));
+}
 
 -- of n pairs and h leading points, the pairs up to the first tree of more than one point
 abbrev pub Reach : ℕ → ℕ → ℕ → Type 0

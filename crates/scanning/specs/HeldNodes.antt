@@ -1,5 +1,5 @@
 -- What the functions of this crate ask of lent slices, and what their answers mean.
-use Rattle.std.specs.Prelude.{◌≡◌, ◌⊎◌, Bool, true, List, ℕ, suc, ◌≤◌, length}
+use Rattle.std.specs.Prelude.{◌≡◌, Bool, true, List, ℕ, suc, ◌≤◌, length}
 use Rattle.std.proofs.Math.Option.{Option}
 use Rattle.lists.specs.Select.{otherwise}
 use Rattle.patterns.specs.Component.{Component, flat, valid_component}
@@ -34,9 +34,3 @@ pub record Passed (search : Component → ℕ → Option Component) (c : Compone
   pub found : Option Component
   pub gave : Gave found r out
   pub is : search c k ≡ otherwise found (search c j)
-
--- r is the lesser of a and b
-pub record Lesser (a b r : ℕ) : Type 0 where
-  pub left : r ≤ a
-  pub right : r ≤ b
-  pub one : (r ≡ a) ⊎ (r ≡ b)

@@ -1,4 +1,5 @@
-// The first child from a place on.
+// The first child from a place on. The left and the right merges are looked through by a function each: what they say of the places that are left differs, and one
+// function over a closure that tries a merge would need that closure's contract for each.
 ghost use Rattle.std.specs.Prelude.{◌≡◌, ◌+◌, ◌≤◌};
 ghost use Rattle.patterns.specs.Component.{Component, flat};
 ghost use Rattle.component_theory.specs.ChildPlaces.{child_from};
@@ -13,15 +14,13 @@ fn scan_left(s: &[u8], from: usize, pairs: usize, lead: usize, out: &mut [u8]) -
     requires { HeldScan s.now pairs lead out.old × (from ≤ pairs) }
     ensures { (c : Component) → s.now ≡ flat c → Passed child_from c from pairs result out.new }
 {
-    let mut i = from;
-    while i < pairs {
+    for i in from..pairs {
         if lead < i {
             return false;
         }
         if left_child(s, i, out) {
             return true;
         }
-        i += 1;
     }
     false
 }
@@ -31,15 +30,13 @@ fn scan_right(s: &[u8], from: usize, pairs: usize, lead: usize, out: &mut [u8]) 
     requires { HeldScan s.now pairs lead out.old }
     ensures { (c : Component) → s.now ≡ flat c → Gave (child_from c (pairs + from)) result out.new }
 {
-    let mut i = from;
-    while i < pairs {
+    for i in from..pairs {
         if lead < i {
             return false;
         }
         if right_child(s, i, out) {
             return true;
         }
-        i += 1;
     }
     false
 }

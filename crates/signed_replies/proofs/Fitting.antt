@@ -1,12 +1,11 @@
 -- Every number of a refusal fits a signed number of 64 bits: the number of a cause is below 100.
-use mathlib.Core.Path.{◌≡◌, refl, ◌∙◌, ap}
-use Prim.Native.Nat.{ℕ, zero, suc, ◌-◌, ◌<◌}
+use mathlib.Core.Path.{◌≡◌, ◌∙◌, ap}
+use Prim.Native.Nat.{ℕ, zero, suc, ◌<◌}
 use native.Mathlib.Omega.{arith}
-use lib.IntN.{ℤ, pos, neg_ℤ, ◌-ℤ◌}
+use lib.IntN.{ℤ, pos, neg_ℤ}
 use mir.Syntax.{w64}
 use mir.Val.{SFits, to_z, of_z}
-use mir.ValLaws.{to_z_pos, to_z-of_z}
-use borrow.Author.Tests.{le-leb}
+use mir.ValLaws.{to_z-of_z}
 use Rattle.patterns.specs.declared.Refusal.{Refusal}
 use Rattle.patterns.specs.Replies.{Answer, refused, number_of}
 use Rattle.patterns.proofs.Causes.{cause-number}
@@ -25,13 +24,3 @@ cause-fits (suc c) h = record { sfits = omega arith }
 
 pub refused-fits : (c : Refusal) → Fits (refused (number_of c))
 refused-fits c = cause-fits (number_of c) (cause-number c).1
-
--- minus the number of a cause, as it is computed
-zero-less : (c : ℕ) → pos 0 -ℤ pos c ≡ neg_ℤ (pos c)
-zero-less zero = refl
-zero-less (suc c) =
-    let e : suc c - 1 ≡ c = omega arith in
-    rw (le-leb 1 (suc c) (omega arith), e)
-
-pub negated : (c : Refusal) (n : ℕ) → n ≡ number_of c → pos 0 -ℤ to_z w64 n ≡ signed_of (refused (number_of c))
-negated c n e = let b = cause-number c in ap (λ z. pos 0 -ℤ z) (to_z_pos w64 n (omega arith) ∙ ap pos e) ∙ zero-less (number_of c)

@@ -1,2 +1,2 @@
--- What of a reply its number shows.
-pub mod PartNumbers
+-- What the number of a reply shows.
+pub mod FoundNumbers

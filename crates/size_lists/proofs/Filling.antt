@@ -7,8 +7,8 @@ use native.Mathlib.Numerals.{add-one}
 use native.Mathlib.Omega.{arith}
 use lib.Dec.{eqb}
 use lib.ListN.{length, take, drop, get_or, replicate, length-append, length-drop, length-replicate, replicate-append-replicate}
-use lib.Seq.{take-suc, take_all, take_at, drop-length, length-take-le}
-use borrow.Author.Tests.{eq-eqb, ne_eqb, eqb-true}
+use lib.Seq.{take-suc, take_all, take_at, length-take-le}
+use borrow.Author.Tests.{eq-eqb, eqb-true}
 use Rattle.lists.specs.Select.{first, gather}
 use Rattle.lists.proofs.Tests.{by-test}
 use Rattle.lists.proofs.Permute.{total-append}
@@ -73,18 +73,6 @@ fill_here d s sizes e = rw (eq-eqb (points d) s e)
 pub flat-cycles : (sizes : List ℕ) → gather flat (map cycle sizes) ≡ replicate (sum sizes) 1
 flat-cycles [] = refl
 flat-cycles (s ∷ sizes) = rw (flat-cycle s, flat-cycles sizes) (replicate-append-replicate s (sum sizes) 1)
-
--- as long as the component already
-pub fill-again : (d : List ℕ) (s : ℕ) → length d ≡ s → fill_trees d s ≡ d
-fill-again d s e = rw (eq-eqb (length d) s e)
-
-pub fill-other : (d : List ℕ) (s : ℕ) → (length d ≡ s → ⊥) → fill_trees d s ≡ replicate s 1
-fill-other d s e = rw (ne_eqb (length d) s e)
-
--- the component copied
-pub fill-copied : (d out after : List ℕ) → length d ≡ length out → after ≡ d ++ drop (length d) out → after ≡ fill_trees d (length out)
-fill-copied d out after e f =
-    f ∙ ap (λ r. d ++ r) (ap (λ k. drop k out) e ∙ drop-length out) ∙ append-nil d ∙ sym (fill-again d (length out) e)
 
 pub length-fill : (d : List ℕ) (s : ℕ) → length (fill_trees d s) ≡ s
 length-fill d s = by-test (eqb (length d) s) (λ e. rw e (eqb-true (length d) s e)) (λ e. rw e (length-replicate s 1))

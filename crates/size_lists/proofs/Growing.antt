@@ -3,6 +3,7 @@ use mathlib.Core.Path.{◌≡◌, refl, ap, sym, ◌∙◌}
 use mathlib.Core.Bool.{true}
 use mathlib.Core.List.{List, [], ◌∷◌, ◌++◌, append_assoc}
 use mathlib.Core.Option.{some, none}
+use Rattle.std.specs.Prelude.{Some, None}
 use Prim.Native.Nat.{ℕ, suc, ◌+◌, ◌-◌, ◌≤◌, ◌<◌}
 use native.Mathlib.Numerals.{add-one}
 use native.Mathlib.Omega.{arith}
@@ -30,8 +31,8 @@ next-none [] h = refl
 next-none (a ∷ []) h = refl
 next-none (a ∷ b ∷ l) h = absurd (omega arith)
 
-pub next-short : (sizes : List ℕ) (m : ℕ) → m ≤ length sizes → m < 2 → NextIn (next_sizes (take m sizes)) 0 sizes
-next-short sizes m h k = rw (next-none (take m sizes) (omega (arith, length-take-le m sizes h))) refl
+pub next-short : (sizes : List ℕ) (m : ℕ) → m ≤ length sizes → m < 2 → NextIn (next_sizes (take m sizes)) None sizes
+next-short sizes m h k = rw (next-none (take m sizes) (omega (arith, length-take-le m sizes h))) tt
 
 -- the first m places, as all but two and the last two
 last-two : (sizes : List ℕ) (m : ℕ) → 2 ≤ m → m ≤ length sizes → take m sizes ≡ take (m - 2) sizes ++ (get_or sizes (m - 2) 0 ∷ get_or sizes (m - 2 + 1) 0 ∷ [])
@@ -93,7 +94,7 @@ module _ {before : List ℕ} {m least : ℕ} {sizes : List ℕ} {i left : ℕ} (
       }
 
   -- the last size
-  pub growing-end : left < least + least → NextIn (next_sizes (take m before)) (i + 1) (set sizes i left)
+  pub growing-end : left < least + least → NextIn (next_sizes (take m before)) (Some (i + 1)) (set sizes i left)
   growing-end h =
       rw (g.rest, least-alone left least left h)
       (omega arith, simp length-set (omega (arith, g.room, g.some_left)), rw (add-one i, take-suc-set sizes i left (omega (arith, g.room, g.some_left))))

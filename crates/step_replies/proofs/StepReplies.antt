@@ -3,6 +3,7 @@ use mathlib.Core.Path.{◌≡◌, refl, sym}
 use mathlib.Core.Bool.{true}
 use mathlib.Core.List.{List}
 use mathlib.Core.Option.{Option, none, some}
+use Rattle.std.specs.Prelude.{Some, None, Option as Number}
 use Prim.Native.Nat.{ℕ, ◌≤◌}
 use native.Mathlib.Omega.{arith}
 use lib.ListN.{length, take, length-take}
@@ -20,8 +21,6 @@ use Rattle.memory.specs.Memory.{Holds, HeldSystem}
 use Rattle.memory.proofs.Parts.{held-points}
 use Rattle.writing.proofs.CanonicalHeld.{canonical-held}
 use Rattle.acceptance.proofs.Taken.{Taken, taken-count}
-use Rattle.stepping.specs.declared.Stepped.{Stepped}
-use Rattle.stepping.specs.declared.Stepped.TheVariants.{To, Ended}
 use Rattle.stepping.specs.HeldSteps.{HeldNext, SteppedTo}
 use Rattle.stepping.proofs.Following.{Keeps, held_next, next-canonical, step-over, step-found, next-again}
 
@@ -41,14 +40,14 @@ previous-told = record { keeps = step_back_of-keeps; is = step_back_of-is; some_
 -- After such a step in memory.
 module _ {walk beside : System → Option System} {told : Option System → Outcome ℕ} (g : Tells walk beside told)
     {sizes : List ℕ} {m : ℕ} {trees : List ℕ} (h : HeldNext sizes m trees)
-    (r : Stepped) (sizes' trees' : List ℕ) (f : (S : System) → Holds S (take m sizes) trees → SteppedTo (walk S) r sizes' trees') where
+    (r : Number ℕ) (sizes' trees' : List ℕ) (f : (S : System) → Holds S (take m sizes) trees → SteppedTo (walk S) r sizes' trees') where
   -- there is none
-  pub beside_none : r ≡ Ended → (before : List ℕ) (S : System) → Holds S (take m sizes) trees
+  pub beside_none : r ≡ None → (before : List ℕ) (S : System) → Holds S (take m sizes) trees
       → Replied (told (beside S)) before (answered (told none) before) before
   beside_none e before S i =
       rw (g.is S (next-canonical h S i), step-over walk r sizes' trees' f e S i) (record { reply = refl; output = sym (g.none_told before) })
 
-  module _ (k : ℕ) (e : r ≡ To k) where
+  module _ (k : ℕ) (e : r ≡ Some k) where
     -- the memory holds the system
     pub beside-held : length sizes' ≡ length sizes → HeldSystem (take k sizes') trees'
     beside-held s =

@@ -3,6 +3,7 @@ use mathlib.Core.Path.{◌≡◌, refl, ap, sym, ◌∙◌}
 use mathlib.Core.Bool.{true}
 use mathlib.Core.List.{List}
 use mathlib.Core.Option.{Option, none, some}
+use Rattle.std.specs.Prelude.{Some, None, Option as Number}
 use Prim.Native.Nat.{ℕ, ◌≤◌}
 use native.Mathlib.Omega.{arith}
 use lib.ListN.{length, take, length-take}
@@ -10,8 +11,6 @@ use Rattle.lists.proofs.Tests.{clash}
 use Rattle.patterns.specs.System.{System, weight, canonical}
 use Rattle.memory.specs.Memory.{Holds}
 use Rattle.memory.proofs.Parts.{held-count, held-points, held-unique}
-use Rattle.stepping.specs.declared.Stepped.{Stepped}
-use Rattle.stepping.specs.declared.Stepped.TheVariants.{To, Ended}
 use Rattle.stepping.specs.HeldSteps.{HeldStep, HeldNext, SteppedTo}
 
 -- a canonical system in the first places of 200
@@ -36,10 +35,10 @@ module _ {sizes : List ℕ} {m : ℕ} {trees : List ℕ} (h : HeldNext sizes m t
   next-canonical S k = ap canonical (sym (held-unique h.holds k)) ∙ h.canonical_is
 
 -- After a step of any kind, forward or backward.
-module _ (walk : System → Option System) {sizes trees : List ℕ} (r : Stepped) (sizes' trees' : List ℕ)
+module _ (walk : System → Option System) {sizes trees : List ℕ} (r : Number ℕ) (sizes' trees' : List ℕ)
     (f : (S : System) → Holds S sizes trees → SteppedTo (walk S) r sizes' trees') where
   -- there is none
-  pub step-over : r ≡ Ended → (S : System) → Holds S sizes trees → walk S ≡ none
+  pub step-over : r ≡ None → (S : System) → Holds S sizes trees → walk S ≡ none
   step-over e S i = of (walk S) refl (f S i)
     where
       of : (o : Option System) → walk S ≡ o → SteppedTo o r sizes' trees' → walk S ≡ none
@@ -47,7 +46,7 @@ module _ (walk : System → Option System) {sizes trees : List ℕ} (r : Stepped
       of (some T) p q = let y = sym e ∙ q.0 in clash cc
 
   -- there is one, of k components
-  pub step-found : (k : ℕ) → r ≡ To k → (S : System) → Holds S sizes trees
+  pub step-found : (k : ℕ) → r ≡ Some k → (S : System) → Holds S sizes trees
       → (T : System) × (walk S ≡ some T) × (Holds T (take k sizes') trees') × (length T ≡ k)
   step-found k e S i = of (walk S) refl (f S i)
     where
@@ -61,8 +60,8 @@ abbrev pub Keeps : (System → Option System) → Type 0
 Keeps walk = (S R : System) → canonical S ≡ true → walk S ≡ some R → (canonical R ≡ true) × (weight R ≡ weight S)
 
 module _ {walk : System → Option System} (keeps : Keeps walk) {sizes : List ℕ} {m : ℕ} {trees : List ℕ} (h : HeldNext sizes m trees)
-    (r : Stepped) (sizes' trees' : List ℕ) (f : (S : System) → Holds S (take m sizes) trees → SteppedTo (walk S) r sizes' trees')
-    (k : ℕ) (e : r ≡ To k) (s : length sizes' ≡ length sizes) where
+    (r : Number ℕ) (sizes' trees' : List ℕ) (f : (S : System) → Holds S (take m sizes) trees → SteppedTo (walk S) r sizes' trees')
+    (k : ℕ) (e : r ≡ Some k) (s : length sizes' ≡ length sizes) where
   -- memory holds what it led to, for the next step
   pub next-again : HeldNext sizes' k trees'
   next-again =

@@ -3,6 +3,7 @@ use mathlib.Core.Path.{◌≡◌, refl, ap, sym, ◌∙◌}
 use mathlib.Core.Bool.{Bool, true, false, true≢false}
 use mathlib.Core.List.{List, map}
 use mathlib.Core.Option.{Option, none, some}
+use Rattle.std.specs.Prelude.{Some, None}
 use Prim.Native.Nat.{ℕ, ◌≤◌}
 use native.Mathlib.Omega.{arith}
 use lib.Dec.{ltb}
@@ -14,7 +15,6 @@ use Rattle.lists.proofs.Tests.{each-cons}
 use Rattle.lists.proofs.Permute.{total-map}
 use Rattle.patterns.specs.Component.{points, flat}
 use Rattle.patterns.specs.System.{System, weight, canonical}
-use Rattle.stepping.specs.declared.Stepped.TheVariants.{To, Ended}
 use Rattle.memory.specs.Memory.{Holds}
 use Rattle.size_lists.specs.SizesHeld.{sum, SizesIn, NextIn}
 use Rattle.bumping.specs.HeldBumps.{HeldCanonical, Bumped}
@@ -37,13 +37,13 @@ bumped_none none sizes trees b = refl
 bumped_none (some T) sizes trees b = absurd (true≢false (sym b.0))
 
 -- what the other size list says, by its length
-next_last : (o : Option (List ℕ)) (sizes : List ℕ) → NextIn o 0 sizes → o ≡ none
+next_last : (o : Option (List ℕ)) (sizes : List ℕ) → NextIn o None sizes → o ≡ none
 next_last none sizes n = refl
-next_last (some l) sizes n = absurd (omega (arith, n.0))
+next_last (some l) sizes n = absurd n
 
-next-some : (o : Option (List ℕ)) (k : ℕ) (sizes : List ℕ) → NextIn o k sizes → (k ≡ 0 → ⊥) → (o ≡ some (take k sizes)) × (k ≤ length sizes)
-next-some none k sizes n h = absurd (h n)
-next-some (some l) k sizes n h = (ap some (sym n.2), n.1)
+next-some : (o : Option (List ℕ)) (k : ℕ) (sizes : List ℕ) → NextIn o (Some k) sizes → (o ≡ some (take k sizes)) × (k ≤ length sizes)
+next-some none k sizes n = absurd n
+next-some (some l) k sizes n = (ap some (sym n.2), n.1)
 
 -- The parts of a step: `same` within the sizes, `next` from size list to size list, and `filling` of the new sizes.
 pub record Parts (step same : System → Option System) (next : List ℕ → Option (List ℕ)) (filling : List ℕ → System) : Type 0 where
@@ -88,25 +88,26 @@ module _ {sizes : List ℕ} {m : ℕ} {trees up side out : List ℕ} (w : HeldSt
   module _ {step same : System → Option System} {next : List ℕ → Option (List ℕ)} {filling : List ℕ → System} (p : Parts step same next filling)
       (r : Bool) (after : List ℕ) (f : (S : System) → Holds S (take m sizes) trees → Bumped (same S) r (take m sizes) after) where
     -- with the same sizes
-    pub step_same : r ≡ true → (S : System) → Holds S (take m sizes) trees → SteppedTo (step S) (To m) sizes after
+    pub step_same : r ≡ true → (S : System) → Holds S (take m sizes) trees → SteppedTo (step S) (Some m) sizes after
     step_same e S h =
         let b = bumped-some (same S) (take m sizes) after (rw e at (f S h)) in
         let n : m ≡ length b.0 = step_count ∙ held-count b.2 in
         rw (p.within S b.0 b.1)
-        (ap To n, record { points_are = ap (λ j. take j sizes) (sym n) ∙ b.2.points_are; flat_is = b.2.flat_is })
+        (ap Some n, record { points_are = ap (λ j. take j sizes) (sym n) ∙ b.2.points_are; flat_is = b.2.flat_is })
 
-    module _ (e : r ≡ false) (k : ℕ) (sizes' : List ℕ) (q : NextIn (next (take m sizes)) k sizes') where
+    module _ (e : r ≡ false) (sizes' : List ℕ) where
       -- there is no other size list
-      pub step-ends : k ≡ 0 → (trees' : List ℕ) → (S : System) → Holds S (take m sizes) trees → SteppedTo (step S) Ended sizes' trees'
-      step-ends z trees' S h =
+      pub step-ends : NextIn (next (take m sizes)) None sizes' → (trees' : List ℕ) → (S : System) → Holds S (take m sizes) trees
+          → SteppedTo (step S) None sizes' trees'
+      step-ends q trees' S h =
           let b = bumped_none (same S) (take m sizes) after (rw e at (f S h)) in
-          let n : next (map points S) ≡ none = ap next (sym h.points_are) ∙ next_last (next (take m sizes)) sizes' (rw z at q) in
+          let n : next (map points S) ≡ none = ap next (sym h.points_are) ∙ next_last (next (take m sizes)) sizes' q in
           rw (p.over S b n) refl
 
       -- there is one
-      pub step_other : (k ≡ 0 → ⊥) → length after ≡ length trees → Other w step filling k sizes' after
-      step_other z len =
-          let n = next-some (next (take m sizes)) k sizes' q z in
+      pub step_other : (k : ℕ) → NextIn (next (take m sizes)) (Some k) sizes' → length after ≡ length trees → Other w step filling k sizes' after
+      step_other k q len =
+          let n = next-some (next (take m sizes)) k sizes' q in
           record {
             gone = λ S h. p.beyond S (take k sizes') (bumped_none (same S) (take m sizes) after (rw e at (f S h))) (ap next (sym h.points_are) ∙ n.0);
             few = n.1;
@@ -127,9 +128,9 @@ module _ {sizes : List ℕ} {m : ℕ} {trees up side out : List ℕ} (w : HeldSt
         ∙ (p.keeps w.system T w.canonical_is (o.gone w.system w.holds)).1 ∙ sym (held-points w.holds) ∙ sym o.long
 
     pub step-filled : (trees' : List ℕ) → trees' ≡ gather flat (filling (take k sizes'))
-        → (S : System) → Holds S (take m sizes) trees → SteppedTo (step S) (To k) sizes' trees'
+        → (S : System) → Holds S (take m sizes) trees → SteppedTo (step S) (Some k) sizes' trees'
     step-filled trees' t S h =
         let T = filling (take k sizes') in
         let count : k ≡ length T = other-count ∙ ap length (sym (p.fits (take k sizes'))) ∙ length-map T points in
         rw (o.gone S h)
-        (ap To count, record { points_are = ap (λ j. take j sizes') (sym count) ∙ sym (p.fits (take k sizes')); flat_is = t })
+        (ap Some count, record { points_are = ap (λ j. take j sizes') (sym count) ∙ sym (p.fits (take k sizes')); flat_is = t })

@@ -1,9 +1,7 @@
 -- What the functions of this crate ask of lent slices, and what their answers mean. A system in memory is two slices (`Holds` of crate memory).
-use Rattle.std.specs.Prelude.{◌≡◌, true, List, ℕ, ◌≤◌, length, take}
+use Rattle.std.specs.Prelude.{◌≡◌, true, List, ℕ, ◌≤◌, length, take, Some, None, Option as Number}
 use Rattle.std.proofs.Math.Option.{Option, none, some}
 use Rattle.patterns.specs.System.{System, canonical}
-use Rattle.stepping.specs.declared.Stepped.{Stepped}
-use Rattle.stepping.specs.declared.Stepped.TheVariants.{To, Ended}
 use Rattle.bumping.specs.HeldBumps.{Work}
 use Rattle.memory.specs.Memory.{Holds}
 
@@ -26,7 +24,7 @@ pub record HeldNext (sizes : List ℕ) (m : ℕ) (trees : List ℕ) : Type 0 whe
   pub places : length sizes ≡ 200
   pub small : length trees ≤ 200
 
--- the system that the step leads to, if there is one, with its sizes in the first places
-abbrev pub SteppedTo : Option System → Stepped → List ℕ → List ℕ → Type 0
-SteppedTo none r sizes trees = r ≡ Ended
-SteppedTo (some T) r sizes trees = (r ≡ To (length T)) × Holds T (take (length T) sizes) trees
+-- the system that the step leads to, if there is one: the answer says how many components it has, and their sizes stand in the first places
+abbrev pub SteppedTo : Option System → Number ℕ → List ℕ → List ℕ → Type 0
+SteppedTo none r sizes trees = r ≡ None
+SteppedTo (some T) r sizes trees = (r ≡ Some (length T)) × Holds T (take (length T) sizes) trees

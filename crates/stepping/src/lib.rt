@@ -8,19 +8,11 @@ ghost use Rattle.memory.specs.Memory.{Holds};
 ghost use Rattle.stepping.specs.HeldSteps.{HeldStep, HeldNext, SteppedTo};
 
 use bumping::bump;
-use lists::set_all;
 use patterns::points_room;
 use size_lists::next_sizes;
 
-// A step through the list of all codes, forward or backward: how many components the system has that it leads to, or the list ends.
-#[derive(Clone, Copy)]
-pub enum Stepped {
-    To(usize),
-    Ended,
-}
-
-// The system that follows in the list of all codes. `trees` holds the system, and the first m places of `sizes` its sizes; the first places of
-// `sizes` then hold as many as the answer says. The other three slices are for work alone.
+// The system that follows in the list of all codes, where there is one. `trees` holds the system, and the first m places of `sizes` its sizes; the first
+// places of `sizes` then hold as many as the answer says. The other three slices are for work alone.
 fn next_system(
     sizes: &mut [u8],
     m: usize,
@@ -28,24 +20,21 @@ fn next_system(
     up: &mut [u8],
     side: &mut [u8],
     out: &mut [u8],
-) -> Stepped
+) -> Option<usize>
     requires { HeldStep sizes.old m trees.old up.old side.old out.old }
     ensures { (S : System) → Holds S (take m sizes.old) trees.old
         → SteppedTo (step S) result sizes.new trees.new }
 {
     if bump(&sizes[..m], trees, up, side, out) {
-        return Stepped::To(m);
+        return Some(m);
     }
-    let k = next_sizes(sizes, m);
-    if k == 0 {
-        return Stepped::Ended;
-    }
-    set_all(trees, 1);
-    Stepped::To(k)
+    let k = next_sizes(sizes, m)?;
+    trees.fill(1);
+    Some(k)
 }
 
 // The same with work space of its own, where `sizes` has 200 places.
-pub fn follow(sizes: &mut [u8], m: usize, trees: &mut [u8]) -> Stepped
+pub fn follow(sizes: &mut [u8], m: usize, trees: &mut [u8]) -> Option<usize>
     requires { HeldNext sizes.old m trees.old }
     ensures { (S : System) → Holds S (take m sizes.old) trees.old
         → SteppedTo (step S) result sizes.new trees.new }

@@ -8,7 +8,7 @@ ghost use Rattle.memory.specs.Memory.{Holds, HeldSystem};
 ghost use Rattle.memory.specs.HeldCode.{HeldValid, HeldCanonical};
 ghost use Rattle.counting_theory.specs.Symmetries.{copies, component_symmetries, symmetries as symmetries_of};
 
-use components::{Rotation, least_rotation};
+use components::least_rotation;
 use lists::equal;
 use tree_symmetries::trees_symmetries;
 
@@ -20,8 +20,8 @@ fn component_symmetries(s: &[u8]) -> u64
 {
     let trees = trees_symmetries(s);
     match least_rotation(s) {
-        Rotation::Least(turns) => turns as u64 * trees,
-        Rotation::Lesser => 0,
+        Some(turns) => turns as u64 * trees,
+        None => 0,
     }
 }
 
@@ -33,14 +33,12 @@ fn equal_components(component: &[u8], sizes: &[u8], trees: &[u8]) -> u64
 {
     let mut n = 0;
     let mut at = 0;
-    let mut i = 0;
-    while i < sizes.len() {
-        let end = at + sizes[i] as usize;
+    for size in sizes {
+        let end = at + *size as usize;
         if equal(component, &trees[at..end]) {
             n += 1;
         }
         at = end;
-        i += 1;
     }
     n
 }
@@ -52,14 +50,12 @@ pub fn symmetries(sizes: &[u8], trees: &[u8]) -> u64
 {
     let mut product = 1;
     let mut at = 0;
-    let mut i = 0;
-    while i < sizes.len() {
-        let end = at + sizes[i] as usize;
+    for (i, size) in sizes.iter().enumerate() {
+        let end = at + *size as usize;
         let before = equal_components(&trees[at..end], &sizes[..i], &trees[..at]);
         let own = component_symmetries(&trees[at..end]);
         product = (before + 1) * own * product;
         at = end;
-        i += 1;
     }
     product
 }

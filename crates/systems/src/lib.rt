@@ -11,7 +11,6 @@ ghost use Rattle.memory.specs.Memory.{Holds, HeldSystem};
 ghost use Rattle.paths.specs.HeldPaths.{HeldPair};
 
 use components::valid_component;
-use lists::Order;
 use paths::compare_generated;
 
 // `right` does not come before `left`.
@@ -19,11 +18,7 @@ fn follows(left: &[u8], right: &[u8]) -> bool
     requires { HeldPair left.now right.now }
     ensures { (p c : Component) → left.now ≡ flat p → right.now ≡ flat c → result ≡ at_most compare_generated p c }
 {
-    match compare_generated(left, right) {
-        Order::Less => true,
-        Order::Equal => true,
-        Order::Greater => false,
-    }
+    compare_generated(left, right).is_le()
 }
 
 // Every component is valid, and none comes before its left neighbour [document 004, Definition 14].
@@ -33,9 +28,8 @@ pub fn canonical(sizes: &[u8], trees: &[u8]) -> bool
 {
     let mut last = 0;
     let mut at = 0;
-    let mut i = 0;
-    while i < sizes.len() {
-        let next = at + sizes[i] as usize;
+    for size in sizes {
+        let next = at + *size as usize;
         if !valid_component(&trees[at..next]) {
             return false;
         }
@@ -44,7 +38,6 @@ pub fn canonical(sizes: &[u8], trees: &[u8]) -> bool
         }
         last = at;
         at = next;
-        i += 1;
     }
-    return true;
+    true
 }

@@ -1,3 +1,3 @@
 -- Laws of the checks of a table.
-pub mod Tables
 pub mod SmallTables
+pub mod Tables

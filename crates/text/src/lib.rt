@@ -1,4 +1,5 @@
 // Text put into a lent buffer from a place on. Each function answers the place after what it put.
+// Buffer and place stay two parameters: `Put`, on which the theorem `program-output` stands, speaks of them apart.
 #![tactic(auto)]
 
 ghost use Rattle.std.specs.Prelude.{[], ◌∷◌, ◌+◌, ◌<◌, ◌≤◌, length};
@@ -19,12 +20,8 @@ pub fn put_bytes(s: &[u8], out: &mut [u8], at: usize) -> usize
     requires { at + length s.now ≤ length out.old }
     ensures { Added s.now at out.old result out.new }
 {
-    let mut end = at;
-    let mut i = 0;
-    while i < s.len() {
-        end = put_byte(s[i], out, end);
-        i += 1;
-    }
+    let end = at + s.len();
+    out[at..end].copy_from_slice(s);
     end
 }
 

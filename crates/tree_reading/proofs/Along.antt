@@ -1,4 +1,5 @@
 -- Trees one after another, read up to a place; and one component.
+use Rattle.std.specs.Prelude.{Result as Read, Ok, Err}
 use mathlib.Core.Path.{◌≡◌, refl, ap, sym, ◌∙◌}
 use mathlib.Core.List.{List, [], ◌∷◌, ◌++◌, append-nil}
 use Prim.Native.Nat.{ℕ, suc, ◌+◌, ◌-◌, ◌≤◌, ◌<◌}
@@ -15,8 +16,6 @@ use Rattle.patterns.specs.Tree.{Tree, size}
 use Rattle.patterns.specs.Component.{points}
 use Rattle.patterns.specs.Reading.{Result, done, fault, mapped, read_tree, read_trees}
 use Rattle.patterns.proofs.Trees.{points-append}
-use Rattle.tree_reading.specs.declared.Read.{Read}
-use Rattle.tree_reading.specs.declared.Read.TheVariants.{Past, Refused}
 use Rattle.form_theory.specs.ReadComponent.{read_component}
 use Rattle.tree_reading.specs.Walking.{walked, walked_all}
 use Rattle.form_theory.proofs.Results.{mapped-none, mapped-more}
@@ -41,11 +40,11 @@ along-start s at k left =
     }
 
 -- what a reply says of the result
-pub tree_of : (at next : ℕ) (o : Result Tree) → walked at o ≡ Past next → (t : Tree) × (o ≡ done t) × (next ≡ at + size t)
+pub tree_of : (at next : ℕ) (o : Result Tree) → walked at o ≡ Ok next → (t : Tree) × (o ≡ done t) × (next ≡ at + size t)
 tree_of at next (done t) e = (t, refl, cc)
 tree_of at next (fault c) e = clash cc
 
-pub tree-fault : (at : ℕ) (c : Refusal) (o : Result Tree) → walked at o ≡ Refused c → o ≡ fault c
+pub tree-fault : (at : ℕ) (c : Refusal) (o : Result Tree) → walked at o ≡ Err c → o ≡ fault c
 tree-fault at c (done t) e = clash cc
 tree-fault at c (fault d) e = ap fault cc
 
@@ -71,42 +70,42 @@ module _ {s : List ℕ} {at k left next rest i : ℕ} (w : Along s at k left nex
             (mapped-more w.had t (read_trees (k - (i + 1)) (rest - size t) (drop (next + size t) s)));
       }
 
-  module _ (r : Read) (tree : (f : ℕ) → rest + rest < f → r ≡ walked next (read_tree f rest (drop next s))) (h : i < k) where
+  module _ (r : Read ℕ Refusal) (tree : (f : ℕ) → rest + rest < f → r ≡ walked next (read_tree f rest (drop next s))) (h : i < k) where
     here : walked next (read_tree (suc (rest + rest)) rest (drop next s)) ≡ r
     here = sym (tree (suc (rest + rest)) (omega arith))
 
     -- one more tree
-    pub along-next : (end : ℕ) → r ≡ Past end → Along s at k left end (rest - (end - next)) (i + 1)
+    pub along-next : (end : ℕ) → r ≡ Ok end → Along s at k left end (rest - (end - next)) (i + 1)
     along-next end e =
         let g = tree_of next end (read_tree (suc (rest + rest)) rest (drop next s)) (here ∙ e) in
         along-tree g.0 end g.1 g.2 h
 
     -- a tree that is refused
-    pub along-refused : (c : Refusal) → r ≡ Refused c → r ≡ walked_all at (read_trees k left (drop at s))
+    pub along-refused : (c : Refusal) → r ≡ Err c → Err c ≡ walked_all at (read_trees k left (drop at s))
     unfolding read_trees
     along-refused c e =
         let g = tree-fault next c (read_tree (suc (rest + rest)) rest (drop next s)) (here ∙ e) in
-        e ∙ rw (w.further, turns h, g)
+        rw (w.further, turns h, g)
 
   -- no tree is left to read
-  pub along-end : k ≤ i → Past next ≡ walked_all at (read_trees k left (drop at s))
+  pub along-end : k ≤ i → Ok next ≡ walked_all at (read_trees k left (drop at s))
   unfolding read_trees
   along-end h =
       let z : k - i ≡ 0 = omega arith in
       let n : next ≡ at + points w.had = w.place in
-      rw (w.further, z, append-nil w.had) (ap Past n)
+      rw (w.further, z, append-nil w.had) (ap Ok n)
 
 -- One component, by the number of its trees.
 module _ (s : List ℕ) (at left : ℕ) where
-  pub component-ended : length s ≤ at → Refused Truncated ≡ walked_all (at + 1) (read_component left (drop at s))
+  pub component-ended : length s ≤ at → Err Truncated ≡ walked_all (at + 1) (read_component left (drop at s))
   unfolding read_component
   component-ended h = rw (drop_of_length-le s {i = at} h)
 
-  pub component-empty : at < length s → get_or s at 0 ≡ 0 → Refused Sizes ≡ walked_all (at + 1) (read_component left (drop at s))
+  pub component-empty : at < length s → get_or s at 0 ≡ 0 → Err Sizes ≡ walked_all (at + 1) (read_component left (drop at s))
   unfolding read_component
   component-empty h e = rw (drop-one 0 s at h, e)
 
-  pub component-large : at < length s → 0 < get_or s at 0 → left < get_or s at 0 → Refused Sizes ≡ walked_all (at + 1) (read_component left (drop at s))
+  pub component-large : at < length s → 0 < get_or s at 0 → left < get_or s at 0 → Err Sizes ≡ walked_all (at + 1) (read_component left (drop at s))
   unfolding read_component
   component-large h p e = rw (drop-one 0 s at h, ne_eqb (get_or s at 0) 0 (λ z. omega arith), lt-ltb left (get_or s at 0) e)
 

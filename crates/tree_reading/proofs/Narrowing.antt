@@ -1,20 +1,16 @@
 -- Numbers written one after another into a lent output from a place on; and the numbers of a component are not greater than its points.
-use mathlib.Core.Path.{◌≡◌, ap, sym, ◌∙◌}
+use mathlib.Core.Path.{◌≡◌, ap, ◌∙◌}
 use mathlib.Core.List.{List, [], ◌∷◌, ◌++◌}
 use Prim.Native.Nat.{ℕ, zero, suc, ◌+◌, ◌≤◌, ◌<◌}
 use native.Mathlib.Nat.{le_of_lt}
 use native.Mathlib.Numerals.{add-one}
 use native.Mathlib.Omega.{arith}
-use lib.ListN.{length, take, get_or, set, take-append-drop}
+use lib.ListN.{length, take, get_or, set}
 use lib.Seq.{take-suc, length-take-le}
 use Rattle.patterns.specs.Tree.{Tree, point, merge, size, below, code}
 use Rattle.patterns.specs.Component.{Component, points, flat}
 use Rattle.written.specs.Putting.{placed}
 use Rattle.written.proofs.Placing.{placed-length, placed_one, placed-more}
-
--- nothing yet
-pub narrow_start : (s d : List ℕ) (at : ℕ) → d ≡ placed at (take 0 s) d
-narrow_start s d at = let e : at + 0 ≡ at = omega arith in rw e (sym (take-append-drop at d))
 
 -- one more
 pub narrow_next : (s d : List ℕ) (at i : ℕ) → i < length s → at + length s ≤ length d

@@ -11,11 +11,7 @@ ghost use Rattle.tree_reading.specs.Walking.{walked, walked_all};
 use patterns::Refusal;
 
 // The place after what was read, or the cause of a refusal.
-#[derive(Clone, Copy)]
-pub enum Read {
-    Past(usize),
-    Refused(Refusal),
-}
+pub type Read = Result<usize, Refusal>;
 
 // A tree of at most `limit` points, from place `at` on. A tree of one point has no branches to read.
 #[cycle(read_branches_read_tree)]
@@ -23,17 +19,17 @@ pub fn read_tree(s: &[u16], at: usize, limit: usize) -> Read
     ensures { (f : ℕ) → limit + limit < f → result ≡ walked at (read_tree f limit (drop at s.now)) }
 {
     if s.len() <= at {
-        return Read::Refused(Refusal::Truncated);
+        return Err(Refusal::Truncated);
     }
-    let x = s[at] as usize;
+    let x = usize::from(s[at]);
     if x == 0 {
-        return Read::Refused(Refusal::Sizes);
+        return Err(Refusal::Sizes);
     }
     if limit < x {
-        return Read::Refused(Refusal::Sizes);
+        return Err(Refusal::Sizes);
     }
     if x == 1 {
-        return Read::Past(at + 1);
+        return Ok(at + 1);
     }
     read_branches(s, at + 1, x - 1)
 }
@@ -44,12 +40,9 @@ pub fn read_branches(s: &[u16], at: usize, left: usize) -> Read
     ensures { (f : ℕ) → left + left + 1 < f → result ≡ walked_all at (read_branches f left (drop at s.now)) }
 {
     if left == 0 {
-        return Read::Past(at);
+        return Ok(at);
     }
-    let tree = read_tree(s, at, left);
-    let Read::Past(next) = tree else {
-        return tree;
-    };
+    let next = read_tree(s, at, left)?;
     read_branches(s, next, left - (next - at))
 }
 
@@ -59,17 +52,12 @@ pub fn read_trees(s: &[u16], at: usize, k: usize, left: usize) -> Read
 {
     let mut next = at;
     let mut rest = left;
-    let mut i = 0;
-    while i < k {
-        let tree = read_tree(s, next, rest);
-        let Read::Past(end) = tree else {
-            return tree;
-        };
+    for _i in 0..k {
+        let end = read_tree(s, next, rest)?;
         rest -= end - next;
         next = end;
-        i += 1;
     }
-    Read::Past(next)
+    Ok(next)
 }
 
 // A component of at most `left` points, from place `at` on: the number of its trees, then the trees.
@@ -77,14 +65,14 @@ pub fn read_component(s: &[u16], at: usize, left: usize) -> Read
     ensures { result ≡ walked_all (at + 1) (read_component left (drop at s.now)) }
 {
     if s.len() <= at {
-        return Read::Refused(Refusal::Truncated);
+        return Err(Refusal::Truncated);
     }
-    let k = s[at] as usize;
+    let k = usize::from(s[at]);
     if k == 0 {
-        return Read::Refused(Refusal::Sizes);
+        return Err(Refusal::Sizes);
     }
     if left < k {
-        return Read::Refused(Refusal::Sizes);
+        return Err(Refusal::Sizes);
     }
     read_trees(s, at + 1, k, left)
 }
@@ -94,9 +82,7 @@ pub fn narrow(s: &[u16], out: &mut [u8], at: usize)
     requires { (at + length s.now ≤ length out.old) × ((i : ℕ) → get_or s.now i 0 < 256) }
     ensures { out.new ≡ placed at s.now out.old }
 {
-    let mut i = 0;
-    while i < s.len() {
-        out[at + i] = s[i] as u8;
-        i += 1;
+    for (i, x) in s.iter().enumerate() {
+        out[at + i] = *x as u8;
     }
 }

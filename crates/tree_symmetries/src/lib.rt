@@ -17,6 +17,7 @@ fn equal_trees(tree: &[u8], row: &[u8]) -> u64
 {
     let mut n = 0;
     let mut at = 0;
+    // The place moves by the size of a tree: no index is counted.
     while at < row.len() {
         let end = at + row[at] as usize;
         if equal(tree, &row[at..end]) {
@@ -34,6 +35,7 @@ fn tree_symmetries(s: &[u8]) -> u64
 {
     let mut product = 1;
     let mut at = 1;
+    // The place moves by the size of a branch: no index is counted.
     while at < s.len() {
         let end = at + s[at] as usize;
         let before = equal_trees(&s[at..end], &s[1..at]);
@@ -51,6 +53,7 @@ pub fn trees_symmetries(s: &[u8]) -> u64
 {
     let mut product = 1;
     let mut at = 0;
+    // The place moves by the size of a tree: no index is counted.
     while at < s.len() {
         let end = at + s[at] as usize;
         product *= tree_symmetries(&s[at..end]);

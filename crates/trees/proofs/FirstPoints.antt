@@ -2,16 +2,37 @@
 use mathlib.Core.Path.{◌≡◌, refl, ap, sym, ◌∙◌}
 use mathlib.Core.Bool.{true}
 use mathlib.Core.List.{List, [], ◌∷◌, ◌++◌}
-use Prim.Native.Nat.{ℕ, zero, suc, ◌+◌, ◌≤◌}
+use Rattle.std.proofs.Common.{◌<◌, ◌≢◌, nat_eq, unwrap_or, Option, MatchOption}
+use Rattle.std.specs.List.{prefix_len, AllWithin, HoldsAt}
+use Rattle.std.proofs.lemmas.Iterator.{index_from_first}
+use Rattle.std.proofs.lemmas.Bool.Decides.{nat_tests}
+use Prim.Native.Nat.{ℕ, zero, suc, ◌+◌, ◌-◌, ◌≤◌, max}
 use native.Mathlib.Omega.{arith}
-use lib.ListN.{drop, replicate}
+use lib.Seq.{take_all}
+use Rattle.std.proofs.lemmas.List.{length-map}
+use Rattle.trees.specs.Codes.{codes}
+use Rattle.trees.proofs.TreeCodes.{codes-flat}
+use lib.ListN.{length, take, length-drop, drop, replicate}
 use Rattle.patterns.specs.Tree.{Tree, point, merge, size, code, branches, graft_on, compare_tree, last_at_most, valid_tree}
 use Rattle.patterns.specs.Component.{Component, flat}
-use Rattle.patterns.proofs.Trees.{below-branches, graft-branches, merge-valid}
-use Rattle.memory.specs.Memory.{Held, HeldTree}
-use Rattle.component_theory.proofs.Generation.{cycle-points}
+use Rattle.patterns.proofs.Trees.{size-positive, length-flat, below-branches, graft-branches, merge-valid}
+use Rattle.memory.specs.Memory.{HeldTree}
+use Rattle.component_theory.proofs.Generation.{length-points}
 use Rattle.trees.specs.Beginnings.{last_start, leading_points, star}
-use Rattle.trees.proofs.Walks.{Along, Inside}
+use Rattle.trees.proofs.Walks.{Inside}
+
+-- the place of the first number that is not 1
+leading-ones : (c : Component) → prefix_len (λ x. nat_eq x 1) (flat c) ≡ leading_points c
+leading-ones [] = refl
+leading-ones (point ∷ c) = grind (arith, leading-ones c)
+leading-ones (merge t u ∷ c) = grind (arith, nat_tests, size-positive t, size-positive u)
+
+pub leading-first : (c : Component) (r : Option ℕ)
+    → MatchOption r (AllWithin (λ x. x ≡ 1) (flat c) 0 (length (flat c))) (λ i. (i < length (flat c)) × HoldsAt (λ x. x ≢ 1) (flat c) i × AllWithin (λ x. x ≡ 1) (flat c) 0 i)
+    → unwrap_or r (length (flat c)) ≡ leading_points c
+leading-first c r h =
+    let ones : List ℕ → ℕ = prefix_len (λ x. nat_eq x 1) in
+    sym (index_from_first ones (λ x. x ≢ 1) (λ x. x ≡ 1) refl (λ x xs h. grind (arith, nat_tests)) (λ x xs h. grind (arith, nat_tests)) (flat c) r h) ∙ leading-ones c
 
 leading-split : (c : Component) → replicate (leading_points c) point ++ drop (leading_points c) c ≡ c
 leading-split [] = refl
@@ -25,17 +46,6 @@ drop-points [] (suc k) h = absurd (omega arith)
 drop-points (point ∷ c) (suc k) h = let d = drop-points c k (omega arith) in (d.0, omega (arith, d.1))
 drop-points (merge t u ∷ c) (suc k) h = absurd (omega arith)
 
--- a walk along a component may begin behind its leading points
-pub along-points : {s : List ℕ} (h : Held s) {k : ℕ} → k ≡ leading_points h.trees → (P : Component → Component → Type 0)
-    → P (replicate k point) (drop k h.trees) → Along s k P
-along-points h {k} e P p = record {
-  ahead = replicate k point;
-  rest = drop k h.trees;
-  cut = h.is ∙ ap flat (sym (leading-split h.trees) ∙ ap (λ n. replicate n point ++ drop n h.trees) (sym e));
-  place = sym (cycle-points k);
-  kept = p;
-}
-
 -- the branches of a tree stand behind its first number
 pub branches-held : {s : List ℕ} (h : HeldTree s) → drop 1 s ≡ flat (branches h.tree)
 branches-held h = ap (drop 1) h.is ∙ below-branches h.tree
@@ -46,6 +56,10 @@ size-star (suc k) = omega (arith, size-star k)
 
 pub last_start-star : (k : ℕ) → last_start (star (suc k)) ≡ suc k
 last_start-star k = omega (arith, size-star k)
+
+pub max-star : (k : ℕ) → max k 1 ≡ last_start (star k)
+max-star zero = refl
+max-star (suc k) = rw last_start-star (omega arith)
 
 star-last : (k : ℕ) → last_at_most (star k) point ≡ true
 unfolding last_at_most compare_tree
@@ -81,3 +95,27 @@ inside-points h {k} e P p =
       from = refl;
       kept = p;
     }
+
+leading-length : (c : Component) → leading_points c ≤ length c
+leading-length [] = omega arith
+leading-length (point ∷ c) = omega (arith, leading-length c)
+leading-length (merge t u ∷ c) = omega arith
+
+-- what stands behind the leading points
+module _ (s : List ℕ) (c : Component) (k : ℕ) (e : s ≡ flat c) (l : k ≡ leading_points c) where
+  pub leading-within : k ≤ length s
+  leading-within = omega (arith, leading-length c, length-points c, length-flat c, ap length e)
+
+  pub behind-points : take (length s - k) (drop k s) ≡ flat (drop k c)
+  behind-points =
+      take_all (length s - k) (drop k s) (omega (arith, length-drop k s))
+      ∙ ap (drop k) e
+      ∙ (drop-points c k (omega arith)).0
+
+  pub count-behind : k + length (codes (take (length s - k) (drop k s))) ≡ length c
+  count-behind =
+      let n = ap length (codes-flat (take (length s - k) (drop k s)) (drop k c) behind-points) in
+      omega (arith, n, length-map (drop k c) code, length-drop k c, leading-length c)
+
+  pub count-within : length c ≤ length s
+  count-within = omega (arith, length-points c, length-flat c, ap length e)

@@ -2,3 +2,4 @@
 pub mod Walks
 pub mod FirstPoints
 pub mod Merging
+pub mod TreeCodes

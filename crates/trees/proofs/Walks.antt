@@ -8,14 +8,12 @@ use native.Mathlib.Omega.{arith}
 use lib.ListN.{length, get_or, take, drop, replicate, length-append}
 use lib.Seq.{take_at, drop_at, get_or_at}
 use Rattle.lists.specs.Order.{lex, at_most}
-use Rattle.lists.specs.Select.{each}
-use Rattle.lists.proofs.Tests.{is_false, no_both, true-and, each_append, each-cons, each-false}
-use Rattle.lists.proofs.Members.{in_append_right, in_head}
+use Rattle.lists.proofs.Tests.{is_false, no_both}
 use Rattle.patterns.specs.Tree.{Tree, point, merge, size, below, code, graft_on, compare_tree, last_at_most, valid_tree}
 use Rattle.patterns.specs.Component.{Component, points, flat}
 use Rattle.patterns.proofs.Trees.{size-positive, length-below, length-code, length-flat, points-append, flat_append, code-injective, flat-injective, valid-merge}
 use Rattle.memory.specs.Memory.{Held}
-use Rattle.trees.specs.Beginnings.{last_start, leading_points}
+use Rattle.trees.specs.Beginnings.{last_start}
 
 -- the tree that begins at a place: its size is the number there, and its code the stretch of so many bytes
 pub record Next (s : List ℕ) (at : ℕ) (rest : Component) : Type 0 where
@@ -98,21 +96,6 @@ module _ {s : List ℕ} {at : ℕ} {P : Component → Component → Type 0} (w :
       let r : w.rest ≡ [] = no-trees w.rest (omega (arith, along-length)) in
       let q : w.ahead ≡ c = sym (append-nil w.ahead) ∙ ap (λ l. w.ahead ++ l) (sym r) ∙ along-whole c e in
       subst (λ a. P a []) q (subst (λ l. P w.ahead l) r w.kept)
-
--- All trees before the place are valid.
-abbrev pub ValidBefore : Component → Component → Type 0
-ValidBefore a r = each valid_tree a ≡ true
-
-module _ {s : List ℕ} {at : ℕ} (w : Along s at ValidBefore) where
-  pub trees-step : (n : Next s at w.rest) → valid_tree n.tree ≡ true → Along s (at + get_or s at 0) ValidBefore
-  trees-step n e =
-      along-step w n ValidBefore
-      (each_append valid_tree w.ahead (n.tree ∷ []) ∙ true-and w.kept (each-cons valid_tree [] e refl))
-
-  pub trees-fail : (n : Next s at w.rest) → valid_tree n.tree ≡ false → (c : Component) → s ≡ flat c → false ≡ each valid_tree c
-  trees-fail n f c e =
-      let q : w.ahead ++ (n.tree ∷ n.later) ≡ c = ap (λ l. w.ahead ++ l) (sym n.is) ∙ along-whole w c e in
-      sym (sym (ap (each valid_tree) q) ∙ each-false valid_tree (in_append_right w.ahead in_head) f)
 
 -- Inside a tree along its branches: `had` is the tree with the branches before the place alone, `rest` are the branches from there on.
 pub below-graft_on : (t : Tree) (us : Component) → below (graft_on t us) ≡ below t ++ flat us
@@ -207,33 +190,3 @@ module _ {s : List ℕ} {last at : ℕ} {P : Tree → Type 0} (w : Inside s last
   inside-fails n f t e =
       let q : graft_on (merge w.had n.tree) n.later ≡ t = ap (graft_on w.had) (sym n.is) ∙ inside-whole w t e in
       sym (is_false (valid_tree t) (λ v. no_both (graft_on-valid (merge w.had n.tree) n.later (ap valid_tree q ∙ v)) f))
-
--- the first tree that is not one point
-pub one-point : (t : Tree) → size t ≡ 1 → t ≡ point
-one-point point h = refl
-one-point (merge t u) h = absurd (omega (arith, size-positive t, size-positive u))
-
-pub leading-none : (t : Tree) (c : Component) → (size t ≡ 1 → ⊥) → leading_points (t ∷ c) ≡ 0
-leading-none point c h = absurd (h refl)
-leading-none (merge t u) c h = refl
-
--- i points lead up to the place
-abbrev pub Leads : ℕ → Component → Component → Type 0
-Leads i a r = leading_points (a ++ r) ≡ i + leading_points r
-
-module _ {s : List ℕ} {i : ℕ} (w : Along s i (Leads i)) where
-  pub leading-stops : (n : Next s i w.rest) → (get_or s i 0 ≡ 1 → ⊥) → (c : Component) → s ≡ flat c → i ≡ leading_points c
-  leading-stops n h c e =
-      let q : leading_points w.rest ≡ 0 = ap leading_points n.is ∙ leading-none n.tree n.later (λ k. h (n.number ∙ k)) in
-      omega (arith, w.kept, ap leading_points (along-whole w c e))
-
-  pub leading_step : (n : Next s i w.rest) → get_or s i 0 ≡ 1 → Along s (i + 1) (Leads (i + 1))
-  leading_step n h =
-      let p : n.tree ≡ point = one-point n.tree (sym n.number ∙ h) in
-      let q : leading_points w.rest ≡ suc (leading_points n.later) = ap leading_points n.is ∙ ap (λ t. leading_points (t ∷ n.later)) p in
-      let e : (w.ahead ++ (n.tree ∷ [])) ++ n.later ≡ w.ahead ++ w.rest = append_assoc w.ahead (n.tree ∷ []) n.later ∙ sym (ap (λ l. w.ahead ++ l) n.is) in
-      subst (λ k. Along s (i + k) (Leads (i + 1))) h
-      (along-step w n (Leads (i + 1)) (omega (arith, ap leading_points e, w.kept)))
-
-  pub leading-ends : length s ≤ i → (c : Component) → s ≡ flat c → i ≡ leading_points c
-  leading-ends h c e = omega (arith, along-end w h c e, ap leading_points (append-nil c))

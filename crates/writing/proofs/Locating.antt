@@ -3,7 +3,8 @@ use mathlib.Core.Path.{◌≡◌, refl, ap, sym, ◌∙◌}
 use mathlib.Core.List.{List, []}
 use Prim.Native.Nat.{ℕ, ◌+◌, ◌-◌, ◌≤◌, ◌<◌}
 use native.Mathlib.Omega.{arith}
-use lib.ListN.{length, take, drop, get_or, length-append}
+use lib.ListN.{length, take, drop, get_or, length-take}
+use Rattle.std.proofs.lemmas.List.{get_or-take}
 use Rattle.patterns.specs.Component.{Component, flat}
 use Rattle.patterns.specs.System.{System}
 use Rattle.patterns.specs.Written.{component_numbers, write_number, bytes, written}
@@ -20,12 +21,9 @@ use Rattle.writing.specs.Passed.{Passed}
 pub codes-bound : {s : List ℕ} → HeldComponent s → length (bytes s) ≤ 400
 codes-bound {s} w = omega (arith, bytes-length s, w.small)
 
-pub component-long : {s : List ℕ} (k front rest : ℕ) → ((c : Component) → s ≡ flat c → k ≡ length c) → front ≡ length (write_number k) → rest ≡ length (bytes s)
-    → (c : Component) → s ≡ flat c → front + rest ≡ length (bytes (component_numbers c))
-component-long k front rest p q r c e =
-    let a : front ≡ length (write_number (length c)) = q ∙ ap (λ x. length (write_number x)) (p c e) in
-    let b : rest ≡ length (bytes (flat c)) = r ∙ ap (λ x. length (bytes x)) e in
-    omega (arith, length-append (write_number (length c)) (bytes (flat c)))
+-- one of the first sizes
+pub size-at : (p : ℕ) (sizes : List ℕ) (i x : ℕ) → i < length (take p sizes) → x ≡ get_or (take p sizes) i 0 → (i < length sizes) × (x ≡ get_or sizes i 0)
+size-at p sizes i x h e = (omega (arith, length-take p sizes), e ∙ get_or-take p sizes i 0 (omega (arith, length-take p sizes)))
 
 -- The components that are passed.
 module _ {sizes trees : List ℕ} (w : HeldSystem sizes trees) where

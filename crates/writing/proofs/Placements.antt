@@ -1,25 +1,23 @@
 -- Writing numbers, components and whole systems into a lent output, one after another, with exactly the room that they need.
 use mathlib.Core.Path.{◌≡◌, refl, ap, sym, ◌∙◌, subst}
-use mathlib.Core.Bool.{Bool, true, false}
+use mathlib.Core.Bool.{Bool, false}
 use mathlib.Core.List.{List, [], ◌∷◌, ◌++◌, append-nil}
 use Prim.Native.Nat.{ℕ, ◌+◌, ◌-◌, ◌≤◌, ◌<◌}
 use native.Mathlib.Numerals.{add-one}
 use native.Mathlib.Omega.{arith}
 use lib.ListN.{length, take, drop, get_or, length-append}
-use lib.Seq.{take-suc, take_all}
+use lib.Seq.{take-suc}
 use lib.Dec.{ltb}
-use borrow.Author.Tests.{le-leb, ltb-true, ltb-false}
+use borrow.Author.Tests.{ltb-false}
 use Rattle.lists.specs.Select.{gather}
 use Rattle.patterns.specs.Component.{Component, flat}
 use Rattle.patterns.specs.System.{System, weight}
 use Rattle.patterns.specs.Written.{component_numbers, write_number, bytes, written}
-use Rattle.patterns.specs.Replies.{length_is, refused}
-use Rattle.patterns.specs.Entry.{gives, Replied}
 use Rattle.patterns.proofs.Trees.{length-flat}
-use Rattle.memory.specs.Memory.{Held, Holds, HeldSystem}
+use Rattle.memory.specs.Memory.{Holds, HeldSystem}
 use Rattle.memory.proofs.Parts.{take_next, part-fits, held-count, held-points, held_fits, held-part, held_next, held-unique}
 use Rattle.written.specs.Putting.{Placed}
-use Rattle.written.proofs.Placing.{placed-length, placed-start, placed-then, put_refused}
+use Rattle.written.proofs.Placing.{placed-length, placed-then}
 use Rattle.form_theory.proofs.Bounds.{gather-within}
 use Rattle.form_theory.proofs.Numbers.{bytes-append}
 use Rattle.component_theory.proofs.Generation.{length-points}
@@ -47,9 +45,6 @@ pub record Numbering (s before : List ℕ) (at : ℕ) (out : List ℕ) (i next :
   pub room : at + length (bytes s) ≤ length before
   pub had : Placed (bytes (take i s)) at before next out
 
-pub numbering_start : (s out : List ℕ) (at : ℕ) → at + length (bytes s) ≤ length out → Numbering s out at out 0 at
-numbering_start s out at h = record { within = omega arith; room = h; had = placed-start at out }
-
 module _ {s before : List ℕ} {at : ℕ} {out : List ℕ} {i next : ℕ} (w : Numbering s before at out i next) where
   numbering-had : at + length (bytes (take i s)) ≤ length before
   numbering-had = omega (arith, widths-within s i, w.room)
@@ -69,14 +64,8 @@ module _ {s before : List ℕ} {at : ℕ} {out : List ℕ} {i next : ℕ} (w : N
         had = rw (add-one i, take-suc s i 0 h) (bytes_next (take i s) (get_or s i 0 ∷ []) numbering-had w.had (number-bytes (get_or s i 0) p));
       }
 
-  pub numbering-end : length s ≤ i → Placed (bytes s) at before next out
-  numbering-end h = rw (take_all i s h) at w.had
-
 -- A component: the number of its trees, then their codes.
 module _ {s before : List ℕ} {at : ℕ} (w : ComponentRoom s before at) where
-  pub room-held : Held s
-  room-held = record { trees = w.held.trees; is = w.held.is }
-
   module _ {k : ℕ} (n : (c : Component) → s ≡ flat c → k ≡ length c) where
     count-is : k ≡ length w.held.trees
     count-is = n w.held.trees w.held.is
@@ -93,10 +82,6 @@ module _ {s before : List ℕ} {at : ℕ} (w : ComponentRoom s before at) where
         (omega (arith, count-is, ap length w.held.is, length-flat c, length-points c, w.held.small), omega (arith, all-bytes, w.room))
 
     module _ {m : ℕ} {mid : List ℕ} (p : Placed (write_number k) at before m mid) where
-      -- room for the codes behind the number
-      pub codes-fit : m + length (bytes s) ≤ length mid
-      codes-fit = omega (arith, placed_same number_fits.1 p, p.end, all-bytes, w.room)
-
       pub component-written : (last : ℕ) (after : List ℕ) → Placed (bytes s) m mid last after
           → (c : Component) → s ≡ flat c → Placed (bytes (component_numbers c)) at before last after
       component-written last after q c e = rw (← e, ← n c e) (placed-then number_fits.1 p q)
@@ -126,9 +111,6 @@ module _ {sizes trees before : List ℕ} {start : ℕ} (w : ComponentsRoom sizes
 
   abbrev the-holds : Holds the-system sizes trees
   the-holds = w.held.holds
-
-  pub system_start : (S : System) → Holds S sizes trees → Writing S before start before 0 0 start
-  system_start S h = record { place = refl; had = placed-start start before }
 
   module _ {out : List ℕ} {i from at : ℕ} (f : (S : System) → Holds S sizes trees → Writing S before start out i from at) where
     here : Writing the-system before start out i from at
@@ -171,9 +153,6 @@ module _ {sizes trees before : List ℕ} {start : ℕ} (w : ComponentsRoom sizes
                 rw (take_next component_numbers S i (omega (arith, held-count h)))
                 (bytes_next (gather component_numbers (take i S)) (component_numbers (get_or S i [])) fits (f S h).had (p (get_or S i []) (part S h)));
           }
-
-    pub system-end : length sizes ≤ i → (S : System) → Holds S sizes trees → Placed (bytes (gather component_numbers S)) start before at out
-    system-end l S h = rw (take_all i S (omega (arith, held-count h))) at (f S h).had
 
 -- A whole system: its points, its components, then each component.
 module _ {sizes trees before : List ℕ} {at : ℕ} (w : SystemRoom sizes trees before at) where
@@ -222,20 +201,5 @@ module _ {sizes trees : List ℕ} (w : HeldSystem sizes trees) (before : List �
   fits : b ≡ false → (S : System) → Holds S sizes trees → length (written S) ≤ length before
   fits f S i = ltb-false (length before) (length (written S)) (sym (e S i) ∙ f)
 
-  pub put-short : b ≡ true → (S : System) → Holds S sizes trees → Replied (gives (written S)) before (refused 8) before
-  put-short t S i = put_refused (written S) before (ltb-true (length before) (length (written S)) (sym (e S i) ∙ t))
-
   pub put-room : b ≡ false → SystemRoom sizes trees before 0
   put-room f = record { held = w; room = omega (arith, fits f w.system w.holds) }
-
-  pub put_whole : b ≡ false → (r : ℕ) (after : List ℕ) → ((S : System) → Holds S sizes trees → Placed (written S) 0 before r after)
-      → (S : System) → Holds S sizes trees → Replied (gives (written S)) before (length_is r) after
-  put_whole f r after p S i =
-      let n = length (written S) in
-      let q = p S i in
-      let r-is : r ≡ n = omega (arith, q.end) in
-      let z : 0 + n ≡ n = omega arith in
-      record {
-        reply = rw (le-leb n (length before) (fits f S i)) (ap length_is r-is);
-        output = q.output ∙ rw (le-leb n (length before) (fits f S i)) (ap (λ j. written S ++ drop j before) z);
-      }

@@ -13,6 +13,7 @@ ghost use Rattle.memory.specs.Memory.{Holds, HeldSystem};
 ghost use Rattle.written.specs.Putting.{Placed};
 ghost use Rattle.writing.specs.Writable.{HeldComponent, ComponentRoom, ComponentsRoom, SystemRoom};
 ghost use Rattle.writing.specs.Passed.{Passed};
+ghost use Rattle.writing.specs.HeldParts.{HeldSystem-prop};
 
 use patterns::{Refusal, Reply};
 use trees::count;
@@ -22,10 +23,7 @@ use written::put_number;
 fn width(x: usize) -> usize
     ensures { result ≡ length (write_number x) }
 {
-    if x < 128 {
-        return 1;
-    }
-    2
+    if x < 128 { 1 } else { 2 }
 }
 
 // How many bytes the numbers of `s` take.
@@ -33,13 +31,7 @@ fn total_width(s: &[u8]) -> usize
     requires { length s.now ≤ 200 }
     ensures { result ≡ length (bytes_of s.now) }
 {
-    let mut sum = 0;
-    let mut i = 0;
-    while i < s.len() {
-        sum += width(s[i] as usize);
-        i += 1;
-    }
-    sum
+    s.iter().map(|x| width(usize::from(*x))).sum()
 }
 
 // How many bytes a component takes: the number of its trees, then their codes.
@@ -52,36 +44,10 @@ pub fn component_width(s: &[u8]) -> usize
 }
 
 // Where a component begins: its bytes in the written code, and its trees in memory.
-#[derive(Clone, Copy)]
+#[derive(Clone, Copy, Debug, PartialEq, Eq, Hash)]
 pub struct Beginning {
     pub start: usize,
     pub from: usize,
-}
-
-// Where the component at `position` begins; behind the last component, where the code and the trees end.
-pub fn beginning_of(sizes: &[u8], trees: &[u8], position: usize) -> Beginning
-    requires { HeldSystem sizes.now trees.now × (position ≤ length sizes.now) }
-    ensures { (S : System) → Holds S sizes.now trees.now → Passed S position result.from result.start }
-{
-    let mut start = width(trees.len()) + width(sizes.len());
-    let mut from = 0;
-    let mut i = 0;
-    while i < position {
-        let to = from + sizes[i] as usize;
-        start += component_width(&trees[from..to]);
-        from = to;
-        i += 1;
-    }
-    Beginning { start, from }
-}
-
-// How many bytes the written code of the system takes.
-pub fn system_length(sizes: &[u8], trees: &[u8]) -> usize
-    requires { HeldSystem sizes.now trees.now }
-    ensures { (S : System) → Holds S sizes.now trees.now → result ≡ length (written S) }
-{
-    let end = beginning_of(sizes, trees, sizes.len());
-    end.start
 }
 
 // Writes the numbers of `s` from `at` on, and answers the place after them.
@@ -89,11 +55,9 @@ fn write_numbers(s: &[u8], out: &mut [u8], at: usize) -> usize
     requires { at + length (bytes_of s.now) ≤ length out.old }
     ensures { Placed (bytes_of s.now) at out.old result out.new }
 {
-    let mut i = 0;
     let mut next = at;
-    while i < s.len() {
-        next = put_number(s[i] as usize, out, next);
-        i += 1;
+    for x in s {
+        next = put_number(usize::from(*x), out, next);
     }
     next
 }
@@ -109,55 +73,79 @@ fn write_component(s: &[u8], out: &mut [u8], at: usize) -> usize
     write_numbers(s, out, next)
 }
 
-// Writes the components one after another from `at` on, and answers the place after them.
-fn write_components(sizes: &[u8], trees: &[u8], out: &mut [u8], at: usize) -> usize
-    requires { ComponentsRoom sizes.now trees.now out.old at }
-    ensures { (S : System) → Holds S sizes.now trees.now
-        → Placed (bytes_of (gather component_numbers S)) at out.old result out.new }
-{
-    let mut i = 0;
-    let mut from = 0;
-    let mut next = at;
-    while i < sizes.len() {
-        let to = from + sizes[i] as usize;
-        next = write_component(&trees[from..to], out, next);
-        from = to;
-        i += 1;
-    }
-    next
+// A system in memory: the points of each component, and the components one after another.
+#[derive(Clone, Copy)]
+pub struct StoredSystem<'a> {
+    pub sizes: &'a [u8],
+    pub trees: &'a [u8],
+    pub ghost held: { HeldSystem sizes.now trees.now } by { HeldSystem-prop sizes.now trees.now },
 }
 
-// Writes the system from `at` on, and answers the place after it.
-pub fn write_system(sizes: &[u8], trees: &[u8], out: &mut [u8], at: usize) -> usize
-    requires { SystemRoom sizes.now trees.now out.old at }
-    ensures { (S : System) → Holds S sizes.now trees.now
-        → Placed (written S) at out.old result out.new }
-{
-    let front = put_number(trees.len(), out, at);
-    let next = put_number(sizes.len(), out, front);
-    write_components(sizes, trees, out, next)
-}
-
-// `room` bytes are too few for the written code of the system. 1,000 bytes hold every code [document 01, "The written code"], so it is measured only where there
-// are fewer.
-fn lacks_room(sizes: &[u8], trees: &[u8], room: usize) -> bool
-    requires { HeldSystem sizes.now trees.now }
-    ensures { (S : System) → Holds S sizes.now trees.now → result ≡ ltb room (length (written S)) }
-{
-    if 1000 <= room {
-        return false;
+impl<'a> StoredSystem<'a> {
+    // Where the component at `position` begins; behind the last component, where the code and the trees end.
+    pub fn beginning_of(self, position: usize) -> Beginning
+        requires { position ≤ length self.sizes.now }
+        ensures { (S : System) → Holds S self.entry.sizes.now self.entry.trees.now → Passed S position result.from result.start }
+    {
+        let mut start = width(self.trees.len()) + width(self.sizes.len());
+        let mut from = 0;
+        for size in &self.sizes[..position] {
+            let to = from + usize::from(*size);
+            start += component_width(&self.trees[from..to]);
+            from = to;
+        }
+        Beginning { start, from }
     }
-    room < system_length(sizes, trees)
-}
 
-// Puts the written code of the system into the first places of `out`, where there is room for it.
-pub fn put_system(sizes: &[u8], trees: &[u8], out: &mut [u8]) -> Reply
-    requires { HeldSystem sizes.now trees.now }
-    ensures { (S : System) → Holds S sizes.now trees.now
-        → Replied (gives (written S)) out.old (answer_of result) out.new }
-{
-    if lacks_room(sizes, trees, out.len()) {
-        return Reply::Refused(Refusal::Room);
+    // How many bytes its written code takes.
+    pub fn length(self) -> usize
+        ensures { (S : System) → Holds S self.entry.sizes.now self.entry.trees.now → result ≡ length (written S) }
+    {
+        self.beginning_of(self.sizes.len()).start
     }
-    Reply::Length(write_system(sizes, trees, out, 0))
+
+    // Writes the components one after another from `at` on, and answers the place after them.
+    fn write_components(self, out: &mut [u8], at: usize) -> usize
+        requires { ComponentsRoom self.sizes.now self.trees.now out.old at }
+        ensures { (S : System) → Holds S self.entry.sizes.now self.entry.trees.now
+            → Placed (bytes_of (gather component_numbers S)) at out.old result out.new }
+    {
+        let mut from = 0;
+        let mut next = at;
+        for size in self.sizes {
+            let to = from + usize::from(*size);
+            next = write_component(&self.trees[from..to], out, next);
+            from = to;
+        }
+        next
+    }
+
+    // Writes the written code from `at` on, and answers the place after it.
+    pub fn write(self, out: &mut [u8], at: usize) -> usize
+        requires { SystemRoom self.sizes.now self.trees.now out.old at }
+        ensures { (S : System) → Holds S self.entry.sizes.now self.entry.trees.now
+            → Placed (written S) at out.old result out.new }
+    {
+        let front = put_number(self.trees.len(), out, at);
+        let next = put_number(self.sizes.len(), out, front);
+        self.write_components(out, next)
+    }
+
+    // `room` bytes are too few for the written code. 1,000 bytes hold every code [document 01, "The written code"], so it is measured only where there are fewer.
+    fn lacks_room(self, room: usize) -> bool
+        ensures { (S : System) → Holds S self.entry.sizes.now self.entry.trees.now → result ≡ ltb room (length (written S)) }
+    {
+        room < 1000 && room < self.length()
+    }
+
+    // Puts the written code into the first places of `out`, where there is room for it.
+    pub fn put(self, out: &mut [u8]) -> Reply
+        ensures { (S : System) → Holds S self.entry.sizes.now self.entry.trees.now
+            → Replied (gives (written S)) out.old (answer_of result) out.new }
+    {
+        if self.lacks_room(out.len()) {
+            return Err(Refusal::Room);
+        }
+        Ok(self.write(out, 0))
+    }
 }

@@ -28,8 +28,8 @@ pub fn put(code: &[u8], out: &mut [u8]) -> Reply
     ensures { Replied (gives code.now) out.old (answer_of result) out.new }
 {
     if out.len() < code.len() {
-        return Reply::Refused(Refusal::Room);
+        return Err(Refusal::Room);
     }
-    let length = lists::copy(code, out);
-    Reply::Length(length)
+    out[..code.len()].copy_from_slice(code);
+    Ok(code.len())
 }

@@ -1,15 +1,10 @@
-use mathlib.Core.Path.{refl, ap}
-use lib.Dec.{is_le}
-use Rattle.lists.specs.Blocks.{ordering_of}
-use Rattle.arrangement.proofs.ComponentPlaces.{searching-start, searching-bound, searching-both, search-stop, search-step, search-end}
+use mathlib.Core.Path.{refl, sym, ◌∙◌}
+use Rattle.arrangement.proofs.ComponentPlaces.{searching-start, searching-bound, searching-both, ordering-le, search-stop, search-step, search-end}
 use native.Mathlib.Omega.{arith}
 use Rattle.arrangement.proofs.component_place.Goals as goal
 
 pub loop-index-init : goal.loop-index-init
 loop-index-init c = λ x S e g q. searching-start x S
-
-pub overflow_cast-next : goal.overflow_cast-next
-overflow_cast-next c = omega (arith, c.type_inv.sizes c.loop-index.index)
 
 pub overflow_add-next : goal.overflow_add-next
 overflow_add-next c =
@@ -23,20 +18,15 @@ pub compare_generated-requires : goal.compare_generated-requires
 compare_generated-requires c = searching-both c.requires c.loop-index.invariant (omega arith)
 
 -- the component at the place is not before c: c goes there
-pub returns-in-Less : goal.returns-in-Less
-returns-in-Less c =
+pub returns-then-is_le : goal.returns-then-is_le
+returns-then-is_le c =
     search-stop c.requires c.loop-index.invariant (omega arith)
-    c.compare_generated.ensures (ap (λ o. is_le (ordering_of o)) c.in-Less.is) _ refl refl
-
-pub returns-in-Equal : goal.returns-in-Equal
-returns-in-Equal c =
-    search-stop c.requires c.loop-index.invariant (omega arith)
-    c.compare_generated.ensures (ap (λ o. is_le (ordering_of o)) c.in-Equal.is) _ refl refl
+    c.compare_generated.ensures (ordering-le c.compare_generated.result ∙ sym c.is_le.ensures ∙ c.if-is_le.true) _ refl refl
 
 pub loop-index-preserved : goal.loop-index-preserved
 loop-index-preserved c =
     search-step c.requires c.loop-index.invariant (omega arith)
-    c.compare_generated.ensures (ap (λ o. is_le (ordering_of o)) c.in-Greater.is)
+    c.compare_generated.ensures (ordering-le c.compare_generated.result ∙ sym c.is_le.ensures ∙ c.if-is_le.false)
 
 pub returns : goal.returns
-returns c = search-end c.loop-index.invariant (omega arith) _ refl refl
+returns c = search-end c.loop-index.invariant (omega arith) _ (omega arith) refl

@@ -1,13 +1,7 @@
 use native.Mathlib.Omega.{arith}
-use lib.ListN.{length-take, length-set}
-use Rattle.arrangement.proofs.ComponentInserting.{asked-place, place-within, place_of, component-inserted}
+use lib.ListN.{length-set}
+use Rattle.arrangement.proofs.ComponentInserting.{place-within, place_of, component-inserted}
 use Rattle.arrangement.proofs.insert_component.Goals as goal
-
-pub slice_bounds-component_place-end-3 : goal.slice_bounds-component_place-end-3
-slice_bounds-component_place-end-3 c = rw length-take (omega (arith, c.requires.count))
-
-pub component_place-place-requires : goal.component_place-place-requires
-component_place-place-requires c = asked-place c.requires
 
 -- the place is before the component
 pub exchange-requires : goal.exchange-requires

@@ -19,21 +19,6 @@ points_before-requires c =
     let h = c.requires in
     record { trees = h.siblings; is = stands-part c.args.end (omega (arith, length-flat h.siblings, h.ends)) h.stands }
 
-pub overflow_add-p : goal.overflow_add-p
-overflow_add-p c =
-    let h = c.requires in
-    omega (arith, within h c.points_before.ensures.0, h.after, h.fits)
-
-pub exchange-requires : goal.exchange-requires
-exchange-requires c =
-    let h = c.requires in
-    (omega (arith, within h c.points_before.ensures.0), h.after, h.fits)
-
-pub exchange-requires-2 : goal.exchange-requires-2
-exchange-requires-2 c =
-    let h = c.requires in
-    (omega (arith, within h c.points_before.ensures.0), h.after, omega (arith, h.fits, h.same))
-
 pub returns : goal.returns
 returns c =
     record {

@@ -9,14 +9,6 @@ use Rattle.arrangement.proofs.points_before.Goals as goal
 pub loop-p-init : goal.loop-p-init
 loop-p-init c = along-start c.requires (Exceeds c.args.tree.now) (exceeds-start c.args.tree.now c.requires.trees)
 
-pub overflow_cast-q : goal.overflow_cast-q
-overflow_cast-q c = omega (arith, c.type_inv.siblings c.loop-p.p)
-
-pub overflow_add-q : goal.overflow_add-q
-overflow_add-q c =
-    let n = along-next c.loop-p.invariant (omega arith) in
-    omega arith
-
 pub slice_bounds-at_most-end : goal.slice_bounds-at_most-end
 slice_bounds-at_most-end c =
     let n = along-next c.loop-p.invariant (omega arith) in

@@ -15,19 +15,19 @@ bound : {f before after : List ℕ} {x k y : ℕ} → is_table f ≡ true → Cl
 bound {f} table c away = walking-bound (length f) (image f) (inside f table) c.walk away
 
 pub loop-y-init : goal.loop-y-init
-loop-y-init c = clearing-start c.requires
+loop-y-init c = clearing-start c.args.table.table c.requires
 
 pub overflow_add-length : goal.overflow_add-length
-overflow_add-length c = omega (arith, bound c.requires.table c.loop-y.invariant c.loop-y-test.true)
+overflow_add-length c = omega (arith, bound c.args.table.table c.loop-y.invariant c.loop-y-test.true)
 
 pub loop-y-smaller : goal.loop-y-smaller
-loop-y-smaller c = omega (arith, bound c.requires.table c.loop-y.invariant c.loop-y-test.true)
+loop-y-smaller c = omega (arith, bound c.args.table.table c.loop-y.invariant c.loop-y-test.true)
 
 pub loop-y-preserved : goal.loop-y-preserved
-loop-y-preserved c = clearing-next c.requires c.loop-y.invariant c.loop-y-test.true
+loop-y-preserved c = clearing-next c.args.table.table c.requires c.loop-y.invariant c.loop-y-test.true
 
 pub shape_of-marks : goal.shape_of-marks
 shape_of-marks c = c.loop-y.invariant.same ∙ sym c.requires.room
 
 pub returns : goal.returns
-returns c = clearing-end c.requires c.loop-y.invariant c.loop-y-test.false
+returns c = clearing-end c.args.table.table c.requires c.loop-y.invariant c.loop-y-test.false

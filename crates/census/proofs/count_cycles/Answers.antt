@@ -17,7 +17,7 @@ place {f} counting cleared h marked long = counting-place (length f) (image f) c
 
 pub loop-x-init : goal.loop-x-init
 loop-x-init c =
-    let f = c.args.f.now in
+    let f = c.args.table.images.now in
     (counting-start (length f) (image f) c.requires.zeros, cleared-start c.requires.marked)
 
 pub bounds-marks-x : goal.bounds-marks-x
@@ -25,9 +25,8 @@ bounds-marks-x c = omega (arith, c.loop-x.invariant.1.same)
 
 pub clear_cycle-l-requires : goal.clear_cycle-l-requires
 clear_cycle-l-requires c =
-    let f = c.args.f.now in
+    let f = c.args.table.images.now in
     record {
-      table = c.requires.table;
       room = c.loop-x.invariant.1.same;
       here = c.loop-x-test.true;
       is_on_cycle = leads-on_cycle (length f) (image f) c.loop-x.x (marked-leads c.loop-x.invariant.1 c.loop-x-test.true c.if-marks-x-ne0.true);
@@ -41,7 +40,7 @@ pub overflow_add-counts : goal.overflow_add-counts
 overflow_add-counts c =
     let l = c.loop-x.invariant in
     let p = place l.0 l.1 c.loop-x-test.true c.if-marks-x-ne0.true c.clear_cycle-l.ensures.long in
-    omega (arith, p.1, l.0.point, c.requires.small)
+    omega (arith, p.1, l.0.point, c.args.table.small)
 
 pub bounds-counts-l-then-marks-x-ne0 : goal.bounds-counts-l-then-marks-x-ne0
 bounds-counts-l-then-marks-x-ne0 c =
@@ -51,7 +50,7 @@ bounds-counts-l-then-marks-x-ne0 c =
 pub loop-x-preserved : goal.loop-x-preserved
 loop-x-preserved c =
     let l = c.loop-x.invariant in
-    let f = c.args.f.now in
+    let f = c.args.table.images.now in
     let here = c.loop-x-test.true in
     elim c.if-marks-x-ne0.branch [
       | then-marks-x-ne0 w ↦
@@ -75,7 +74,7 @@ shape_of-counts c = c.loop-x.invariant.0.size ∙ sym (length-replicate _ _) ∙
 
 pub returns : goal.returns
 returns c =
-    let f = c.args.f.now in
+    let f = c.args.table.images.now in
     record {
       size = c.loop-x.invariant.0.size;
       count = λ k p b. counting-end (length f) (image f) c.loop-x.invariant.0 (omega arith) k b;

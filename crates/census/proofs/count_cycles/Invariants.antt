@@ -1,4 +1,3 @@
-use Prim.Native.Nat.{◌-◌}
 use lib.ListN.{length}
 use Rattle.patterns.specs.Table.{image}
 use Rattle.census.proofs.Counting.{Counting}
@@ -6,7 +5,4 @@ use Rattle.census.proofs.Clearing.{Cleared}
 use Rattle.census.proofs.count_cycles.Given as goal
 
 abbrev pub invariant-loop-x : goal.invariant-loop-x
-invariant-loop-x l = Counting (length l.f) (image l.f) l.counts l.x × Cleared l.f l.marks l.x
-
-abbrev pub decreases-loop-x : goal.decreases-loop-x
-decreases-loop-x l = length l.f - l.x
+invariant-loop-x l = Counting (length l.table.images.now) (image l.table.images.now) l.counts l.x × Cleared l.table.images.now l.marks l.x

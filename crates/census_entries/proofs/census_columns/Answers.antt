@@ -1,25 +1,22 @@
-use mathlib.Core.Path.{subst}
+use lib.ListN.{length}
+use Prim.Native.Nat.{min}
+use Rattle.std.proofs.lemmas.Result.{err_from_is_err_and}
 use Rattle.patterns.specs.Census.{rows_of}
-use borrow.Author.Rules.{rules}
-use Rattle.census_entries.specs.Decisions.{Decided}
+use Rattle.patterns.specs.Entry.{census_of}
 use Rattle.map_theory.proofs.SideBySide.{rows-places}
-use Rattle.census_entries.proofs.Columns.{columns-fit, columns-filled}
+use Rattle.census_entries.proofs.Decisions.{refused-table, refusal-answered}
+use Rattle.census_entries.proofs.Columns.{columns-kept}
 use Rattle.census_entries.proofs.census_columns.Goals as goal
 
-pub put_columns-requires : goal.put_columns-requires
-put_columns-requires c =
+pub returns-in_err-table : goal.returns-in_err-table
+returns-in_err-table c =
+    let f = c.args.table.now in
     let lengths = c.args.lengths.now in
     let counts = c.args.counts.now in
-    -- for as many places as the shorter column has
-    let w = subst (λ places. Decided c.args.table.now places c.decide-decision.result) c.lesser-places.ensures c.decide-decision.ensures in
-    columns-fit lengths counts w.rows_decided
-
-pub returns : goal.returns
-returns c =
-    let lengths = c.args.lengths.now in
-    let counts = c.args.counts.now in
-    let w = subst (λ places. Decided c.args.table.now places c.decide-decision.result) c.lesser-places.ensures c.decide-decision.ensures in
-    record {
-      reply = w.reply (rows_of lengths counts) (rows-places lengths counts);
-      output = columns-filled lengths counts w.rows_decided (search rules) (search rules) c.put_columns.ensures;
-    }
+    let w = refused-table f c.in_err-table.ensures (min (length lengths) (length counts)) in
+    let p = err_from_is_err_and c.from_residual.result c.from_residual.ensures.1 in
+    rw (p.1, p.2)
+    (record {
+      reply = refusal-answered f (rows_of lengths counts) (census_of f) (w.reply (rows_of lengths counts) (rows-places lengths counts));
+      output = columns-kept lengths counts w;
+    })

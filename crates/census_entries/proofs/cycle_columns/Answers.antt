@@ -1,25 +1,17 @@
-use mathlib.Core.Path.{subst}
+use lib.ListN.{length}
+use Prim.Native.Nat.{min}
+use Rattle.std.proofs.lemmas.Result.{err_from_is_err_and}
 use Rattle.patterns.specs.Census.{rows_of}
-use borrow.Author.Rules.{rules}
-use Rattle.census_entries.specs.Decisions.{Chosen}
 use Rattle.map_theory.proofs.SideBySide.{rows-places}
-use Rattle.census_entries.proofs.Columns.{columns-fit, columns-filled}
+use Rattle.census_entries.proofs.Decisions.{refused-table}
+use Rattle.census_entries.proofs.Columns.{columns-kept}
 use Rattle.census_entries.proofs.cycle_columns.Goals as goal
 
-pub put_columns-requires : goal.put_columns-requires
-put_columns-requires c =
+pub returns-in_err-table : goal.returns-in_err-table
+returns-in_err-table c =
     let lengths = c.args.lengths.now in
     let counts = c.args.counts.now in
-    -- for as many places as the shorter column has
-    let w = subst (λ places. Chosen c.args.table.now places c.choose-choice.result) c.lesser-places.ensures c.choose-choice.ensures in
-    columns-fit lengths counts w.rows_decided
-
-pub returns : goal.returns
-returns c =
-    let lengths = c.args.lengths.now in
-    let counts = c.args.counts.now in
-    let w = subst (λ places. Chosen c.args.table.now places c.choose-choice.result) c.lesser-places.ensures c.choose-choice.ensures in
-    record {
-      reply = w.reply (rows_of lengths counts) (rows-places lengths counts);
-      output = columns-filled lengths counts w.rows_decided (search rules) (search rules) c.put_columns.ensures;
-    }
+    let w = refused-table c.args.table.now c.in_err-table.ensures (min (length lengths) (length counts)) in
+    let p = err_from_is_err_and c.from_residual.result c.from_residual.ensures.1 in
+    rw (p.1, p.2)
+    (record { reply = w.reply (rows_of lengths counts) (rows-places lengths counts); output = columns-kept lengths counts w })

@@ -1,9 +1,6 @@
-use mathlib.Core.Path.{sym}
-use Rattle.components.proofs.RotationAnswers.{told-least, told-lesser}
+use mathlib.Core.Path.{◌∙◌}
+use Rattle.components.proofs.RotationAnswers.{told-some}
 use Rattle.children.proofs.is_least.Goals as goal
 
-pub returns-in-Least : goal.returns-in-Least
-returns-in-Least c = λ d e. sym (told-least d (c.least_rotation.ensures d e) _ c.in-Least.is)
-
-pub returns-in-Lesser : goal.returns-in-Lesser
-returns-in-Lesser c = λ d e. sym (told-lesser d (c.least_rotation.ensures d e) c.in-Lesser.is)
+pub returns : goal.returns
+returns c = λ d e. c.is_some.ensures ∙ told-some d (c.least_rotation.ensures d e)

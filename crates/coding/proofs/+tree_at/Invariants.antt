@@ -9,7 +9,7 @@ decreases-tree_at l = l.left
 
 abbrev pub invariant-loop-y : goal.invariant-loop-y
 invariant-loop-y l =
-    (f : List ℕ) → TreeAsked f l.last l.before l.x l.left l.initial.trees l.initial.labels l.at
+    (f : List ℕ) → TreeAsked f l.branches.last.now l.branches.before.now l.x l.left l.initial.trees l.initial.labels l.at
     → Growing f l.x l.at l.initial.trees l.initial.labels l.y l.end l.trees l.labels
 
 abbrev pub decreases-loop-y : goal.decreases-loop-y

@@ -10,14 +10,6 @@ pub loop-x-init : goal.loop-x-init
 loop-x-init c =
     collecting-start c.args.f.now c.args.trees.now c.args.labels.now c.args.sizes.now c.requires.asked.sizes_room
 
-pub bounds-leads-x : goal.bounds-leads-x
-bounds-leads-x c =
-    let given = c.requires in
-    omega (arith, given.leaders.room, c.loop-x.invariant.passed)
-
-pub overflow_cast-leads : goal.overflow_cast-leads
-overflow_cast-leads c = omega (arith, c.type_inv.leads (c.loop-x.x - 1))
-
 pub component_at-next-requires : goal.component_at-next-requires
 component_at-next-requires c =
     let given = c.requires in

@@ -1,9 +1,5 @@
-use native.Mathlib.Omega.{arith}
 use Rattle.coding.proofs.Circling.{circling-first, circling-start, circling-bound, circling-end, circling-asked, circling-less, circling-next}
 use Rattle.coding.proofs.trees_along.Goals as goal
-
-pub overflow_sub-n : goal.overflow_sub-n
-overflow_sub-n c = omega (arith, c.requires.room)
 
 pub tree_at-end-requires : goal.tree_at-end-requires
 tree_at-end-requires c = record { of = c.args.f.now; asked = circling-first c.requires }

@@ -9,7 +9,7 @@ use Rattle.coding.proofs.trees_along.Given as goal
 
 abbrev pub invariant-loop-y : goal.invariant-loop-y
 invariant-loop-y l =
-    (d e : List ℕ) → CycleAsked l.f l.last l.before l.x d e l.at → Planted (plant_at l.f l.x ∷ []) l.at d e l.initial.end l.initial.trees l.initial.labels
+    (d e : List ℕ) → CycleAsked l.f l.branches.last.now l.branches.before.now l.x d e l.at → Planted (plant_at l.f l.x ∷ []) l.at d e l.initial.end l.initial.trees l.initial.labels
     → Circling l.f l.x l.at d e l.y l.end l.trees l.labels
 
 abbrev pub decreases-loop-y : goal.decreases-loop-y

@@ -2,14 +2,14 @@ use mathlib.Core.Path.{sym, ap, ◌∙◌}
 use native.Mathlib.Omega.{arith}
 use Rattle.lists.specs.Blocks.{ordering_of}
 use Rattle.trees.proofs.Walks.{along-next}
-use Rattle.components.proofs.OnePass.{none-less, kept-start, kept-within, old-tree, kept-equal, kept-greater, kept-smaller, period-some, kept-cut, kept_whole}
+use Rattle.components.proofs.OnePass.{none-less, kept-start, kept-within, old-tree, kept-equal, kept-greater, kept-smaller, period-some, kept-told}
 use Rattle.components.proofs.least_rotation.Goals as goal
 
-pub returns-then-s-eq0 : goal.returns-then-s-eq0
-returns-then-s-eq0 c = λ d e. none-less c.args.s.now (omega arith) d e
+pub returns-then-is_empty : goal.returns-then-is_empty
+returns-then-is_empty c = λ d e. none-less c.args.s.now (grind arith) d e
 
 pub loop-at-init : goal.loop-at-init
-loop-at-init c = kept-start c.requires (omega arith)
+loop-at-init c = kept-start c.requires (grind arith)
 
 pub overflow_sub-back : goal.overflow_sub-back
 overflow_sub-back c = kept-within c.loop-at.invariant
@@ -67,11 +67,8 @@ loop-at-preserved c =
 pub nonzero_rem-s : goal.nonzero_rem-s
 nonzero_rem-s c = period-some c.loop-at.invariant
 
-pub returns-then-s-period-ne0 : goal.returns-then-s-period-ne0
-returns-then-s-period-ne0 c = λ d e. kept-cut c.loop-at.invariant (omega arith) d e (λ z. c.if-s-period-ne0.true z)
-
 pub nonzero_div-turns : goal.nonzero_div-turns
 nonzero_div-turns c = period-some c.loop-at.invariant
 
 pub returns : goal.returns
-returns c = λ d e. kept_whole c.loop-at.invariant (omega arith) d e c.if-s-period-ne0.false
+returns c = λ d e. c.then_some.ensures ∙ kept-told c.loop-at.invariant (omega arith) d e

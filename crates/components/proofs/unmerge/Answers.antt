@@ -6,14 +6,3 @@ pub returns-then-s-h : goal.returns-then-s-h
 returns-then-s-h c =
     let l = c.leading-h in
     λ d e. climbed-root c.args.s.now l.result d e (l.ensures d e) (omega arith)
-
-pub unmerge_at-requires : goal.unmerge_at-requires
-unmerge_at-requires c =
-    let h = c.requires in
-    record {
-      trees = h.trees;
-      is = h.is;
-      leads = c.leading-h.ensures h.trees h.is;
-      more = omega arith;
-      counted = c.count-trees.ensures h.trees h.is;
-    }

@@ -63,12 +63,6 @@ returns c =
     let x = climbed-right v e q f (c.requires.counted ∙ ap length (held c.requires d e)) in
     (x.0, c.exchange.ensures ∙ x.1, x.2)
 
-pub bounds-s-h : goal.bounds-s-h
-bounds-s-h c = c.requires.more
-
-pub overflow_add-e : goal.overflow_add-e
-overflow_add-e c = omega (arith, fits c.requires)
-
 pub slice_bounds-last_branch-end : goal.slice_bounds-last_branch-end
 slice_bounds-last_branch-end c = fits c.requires
 
@@ -80,12 +74,6 @@ bounds-s-l c = omega (arith, cut c.requires c.last_branch.ensures)
 
 pub overflow_sub-s : goal.overflow_sub-s
 overflow_sub-s c = omega (arith, cut c.requires c.last_branch.ensures)
-
-pub slice_bounds-at_most-count : goal.slice_bounds-at_most-count
-slice_bounds-at_most-count c = omega (arith, cut c.requires c.last_branch.ensures)
-
-pub slice_bounds-at_most-start : goal.slice_bounds-at_most-start
-slice_bounds-at_most-start c = omega (arith, cut c.requires c.last_branch.ensures)
 
 pub slice_bounds-at_most-end : goal.slice_bounds-at_most-end
 slice_bounds-at_most-end c = simp length-set (omega (arith, cut c.requires c.last_branch.ensures))

@@ -1,25 +1,24 @@
-use mathlib.Core.Path.{sym, ◌∙◌}
-use native.Mathlib.Omega.{arith}
-use Rattle.components.proofs.RotationAnswers.{told-least, told-lesser}
+use Rattle.std.proofs.Common.{sym, ◌∙◌, arith}
+use Rattle.std.proofs.lemmas.Bool.Decides.{nat_tests}
+use Rattle.components.proofs.RotationAnswers.{told-some}
 use Rattle.components.proofs.Validity.{valid-not-empty, valid-not-trees, valid-is-least}
 use Rattle.components.proofs.valid_component.Goals as goal
+use Rattle.components.proofs.valid_component.Goals.{then-not-is_empty, else-not-is_empty}
 
-pub returns-then-s-eq0 : goal.returns-then-s-eq0
-returns-then-s-eq0 c = λ d e. valid-not-empty c.args.s.now (omega arith) d e
-
-pub returns-then-not-valid_trees : goal.returns-then-not-valid_trees
-returns-then-not-valid_trees c =
-    let r = c.valid_trees in
-    λ d e. valid-not-trees d (sym (r.ensures d e) ∙ c.if-not-valid_trees.true)
-
-pub returns-in-Least : goal.returns-in-Least
-returns-in-Least c =
+pub returns-then-valid_trees : goal.returns-then-valid_trees
+returns-then-valid_trees c =
     λ d e.
-    sym (told-least d (c.least_rotation.ensures d e) _ c.in-Least.is)
-    ∙ valid-is-least c.args.s.now (λ q. omega arith) d e (sym (c.valid_trees.ensures d e) ∙ c.if-not-valid_trees.false)
+    c.is_some.ensures
+    ∙ told-some d (c.least_rotation.ensures d e)
+    ∙ elim c.if-not-is_empty.branch [
+      | then-not-is_empty w ↦ valid-is-least c.args.s.now (grind (arith, nat_tests)) d e (sym (w.valid_trees.ensures d e) ∙ cc)
+      | else-not-is_empty w ↦ absurd cc
+    ]
 
-pub returns-in-Lesser : goal.returns-in-Lesser
-returns-in-Lesser c =
+pub returns-else-valid_trees : goal.returns-else-valid_trees
+returns-else-valid_trees c =
     λ d e.
-    sym (told-lesser d (c.least_rotation.ensures d e) c.in-Lesser.is)
-    ∙ valid-is-least c.args.s.now (λ q. omega arith) d e (sym (c.valid_trees.ensures d e) ∙ c.if-not-valid_trees.false)
+    elim c.if-not-is_empty.branch [
+      | then-not-is_empty w ↦ c.if-valid_trees.false ∙ valid-not-trees d (sym (w.valid_trees.ensures d e) ∙ cc)
+      | else-not-is_empty w ↦ c.if-valid_trees.false ∙ valid-not-empty c.args.s.now (grind (arith, nat_tests)) d e
+    ]

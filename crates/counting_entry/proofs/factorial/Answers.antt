@@ -14,8 +14,5 @@ loop-i-preserved c = factors-next c.loop-i.invariant (omega arith)
 pub returns : goal.returns
 returns c = factors-end c.loop-i.invariant (omega arith)
 
-pub overflow_add-i : goal.overflow_add-i
-overflow_add-i c = omega (arith, c.requires)
-
-pub loop-i-smaller : goal.loop-i-smaller
-loop-i-smaller c = omega arith
+pub returns-2 : goal.returns-2
+returns-2 c = factors-end (factors-next c.loop-i.invariant (omega arith)) (omega arith)

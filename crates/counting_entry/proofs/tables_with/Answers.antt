@@ -8,8 +8,8 @@ returns-then-trees-gt15 c = not-counted c.requires (omega arith)
 pub symmetries-requires : goal.symmetries-requires
 symmetries-requires c = (c.requires, omega arith)
 
-pub nonzero_div-tables : goal.nonzero_div-tables
-nonzero_div-tables c =
+pub nonzero_div-result : goal.nonzero_div-result
+nonzero_div-result c =
     divisor c.requires c.factorial-orders.ensures c.symmetries.ensures
 
 pub returns : goal.returns

@@ -1,34 +1,29 @@
-use mathlib.Core.Path.{sym, subst}
-use native.Mathlib.Omega.{arith}
-use Rattle.cutting.specs.Cutting.{CutInto}
-use Rattle.cutting.proofs.Cutting.{cutting-start, cutting-refused, ended-small, cutting-ended, cutting-open, cutting-truncated, cutting-end}
+use Rattle.std.proofs.Common.{sym, ◌∙◌, arith}
+use Rattle.cutting.proofs.Cutting.{cutting-refused, cutting-ended, cutting-open, cutting-truncated, cutting-end}
 use Rattle.cutting.proofs.cut_into.Goals as goal
-
-pub loop-at-init : goal.loop-at-init
-loop-at-init c = cutting-start c.args.s.now c.args.out.now
+use Rattle.cutting.proofs.cut_into.Goals.{in-Whole, in-Begun}
 
 pub returns-in_default : goal.returns-in_default
 returns-in_default c =
-    subst
-    (λ r. CutInto c.args.s.now c.args.out.now r c.loop-at.out)
-    (sym c.in_default.is)
-    (cutting-refused c.loop-at.invariant (omega arith) c.in_default.field-0 c.in_default.ensures)
+    cutting-refused c.loop-byte.invariant (omega arith) c.unwrap_err.result
+    (rw c.from.ensures at (sym c.unwrap_err.ensures ∙ c.cut_step-known.ensures))
 
-pub keep-requires : goal.keep-requires
-keep-requires c =
-    ended-small c.loop-at.invariant (omega arith) c.in-Number.value c.in-Number.next (omega (arith, c.type_inv.s c.loop-at.at)) c.in-Number.ensures (omega arith)
+pub loop-byte-preserved : goal.loop-byte-preserved
+loop-byte-preserved c =
+    let i = c.loop-byte.invariant in
+    let byte = c.type_inv.s c.loop-byte.byte-index in
+    let told = c.in-Ok.ensures in
+    elim c.match-piece.branch [
+      | in-Whole w ↦
+          rw (w.out-is, w.n-is, w.begun-is, w.keep.ensures)
+          (cutting-ended i (omega arith) w.in-Whole.value (omega (arith, byte)) (rw (c.from.ensures, w.in-Whole.is) at told))
+      | in-Begun w ↦
+          rw (w.out-is, w.n-is, w.begun-is)
+          (cutting-open i (omega arith) w.in-Begun.first (omega (arith, byte)) (rw (c.from.ensures, w.in-Begun.is) at told))
+    ]
 
-pub loop-at-preserved-then-next-eq0 : goal.loop-at-preserved-then-next-eq0
-loop-at-preserved-then-next-eq0 c =
-    rw c.keep.ensures
-    (cutting-ended c.loop-at.invariant (omega arith) c.in-Number.value c.in-Number.next (omega (arith, c.type_inv.s c.loop-at.at)) c.in-Number.ensures (omega arith))
-
-pub loop-at-preserved : goal.loop-at-preserved
-loop-at-preserved c =
-    cutting-open c.loop-at.invariant (omega arith) c.in-Number.value c.in-Number.next (omega (arith, c.type_inv.s c.loop-at.at)) c.in-Number.ensures (omega arith)
-
-pub returns-then-place-ne0 : goal.returns-then-place-ne0
-returns-then-place-ne0 c = cutting-truncated c.loop-at.invariant (omega arith) (omega arith)
+pub returns-then-is_some : goal.returns-then-is_some
+returns-then-is_some c = cutting-truncated c.loop-byte.invariant (omega arith) (sym c.if-is_some.ensures)
 
 pub returns : goal.returns
-returns c = cutting-end c.loop-at.invariant (omega arith) (omega arith)
+returns c = cutting-end c.loop-byte.invariant (omega arith) (sym c.if-is_some.ensures)

@@ -12,10 +12,10 @@ queue-places : (f room : List ℕ) → length room ≡ 200 → length f ≤ 200 
 queue-places f room e h = rw length-take (omega arith)
 
 pub slice_bounds-prune-end : goal.slice_bounds-prune-end
-slice_bounds-prune-end c = sym (queue-places c.args.f.now _ c.points_room-queue.ensures c.requires.small)
+slice_bounds-prune-end c = sym (queue-places c.args.table.images.now _ c.points_room-queue.ensures c.args.table.small)
 
 pub prune-requires : goal.prune-requires
-prune-requires c = (c.count_in_degrees.ensures, queue-places c.args.f.now _ c.points_room-queue.ensures c.requires.small)
+prune-requires c = (c.count_in_degrees.ensures, queue-places c.args.table.images.now _ c.points_room-queue.ensures c.args.table.small)
 
 pub returns : goal.returns
 returns c = pruned-marked c.prune.ensures c.mark_left.ensures

@@ -5,7 +5,7 @@ use lib.ListN.{length, take}
 use lib.Seq.{length-take-le}
 use Rattle.patterns.specs.declared.Refusal.TheVariants.{LineForm, OutDegree}
 use Rattle.patterns.specs.Digraph6.{is_line_body}
-use Rattle.digraph6_reading.proofs.LinesRead.{line_refused, body_refused, matrix-ready, rows-refused, rows-read}
+use Rattle.digraph6_reading.proofs.LinesRead.{line_refused, body_refused, rows-refused, rows-read}
 use Rattle.digraph6_reading.proofs.read_body.Goals as goal
 
 -- the bytes are those of a matrix
@@ -13,17 +13,6 @@ pub returns-then-not-is_body : goal.returns-then-not-is_body
 returns-then-not-is_body c =
     let a = c.args in
     line_refused LineForm _ (body_refused a.n a.body.now (sym c.is_body.ensures ∙ c.if-not-is_body.true))
-
-pub slice_bounds-read_matrix-end-2 : goal.slice_bounds-read_matrix-end-2
-slice_bounds-read_matrix-end-2 c =
-    let count-is : let a = c.args in length (take a.n a.table.now) ≡ a.n = length-take-le _ _ (omega (arith, c.requires.0, c.requires.1)) in
-    sym count-is
-
-pub read_matrix-requires : goal.read_matrix-requires
-read_matrix-requires c =
-    let body_is : let a = c.args in is_line_body a.n a.body.now ≡ true = sym c.is_body.ensures ∙ c.if-not-is_body.false in
-    let count-is : let a = c.args in length (take a.n a.table.now) ≡ a.n = length-take-le _ _ (omega (arith, c.requires.0, c.requires.1)) in
-    matrix-ready c.args.n c.args.body.now body_is _ count-is c.requires.0
 
 pub returns-then-not-read_matrix : goal.returns-then-not-read_matrix
 returns-then-not-read_matrix c =

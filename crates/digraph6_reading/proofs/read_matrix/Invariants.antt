@@ -1,4 +1,3 @@
-use Prim.Native.Nat.{◌-◌}
 use lib.ListN.{length}
 use Rattle.lists.specs.Select.{gather}
 use Rattle.patterns.specs.Digraph6.{bits_of}
@@ -7,6 +6,3 @@ use Rattle.digraph6_reading.proofs.read_matrix.Given as goal
 
 abbrev pub invariant-loop-i : goal.invariant-loop-i
 invariant-loop-i l = RowsRead (length l.initial.table) (gather bits_of l.body) l.table l.one l.i
-
-abbrev pub decreases-loop-i : goal.decreases-loop-i
-decreases-loop-i l = length l.initial.table - l.i

@@ -1,8 +1,6 @@
-use mathlib.Core.Path.{◌≡◌, refl, sym, ◌∙◌}
-use mathlib.Core.List.{List, ◌++◌}
-use Prim.Native.Nat.{ℕ}
+use mathlib.Core.Path.{refl, sym, ◌∙◌}
 use native.Mathlib.Omega.{arith}
-use lib.ListN.{length, take, drop, get_or}
+use lib.Seq.{length-take-le}
 use Rattle.bumping.proofs.Advancing.{front_fits, front_length, ahead-some, ahead-fits, ahead-sum, ahead-length, ahead-up, ahead-side, ahead-out, ahead-node}
 use Rattle.falling.proofs.Retreating.{retreat-none, retreat-some}
 use Rattle.falling.proofs.retreat.Goals as goal
@@ -46,34 +44,25 @@ returns-then-not-predecessor c = retreat-none c.requires c.predecessor.result _ 
 pub last_right-requires : goal.last_right-requires
 last_right-requires c = ahead-sum c.requires.holds
 
-pub slice_bounds-copy-end : goal.slice_bounds-copy-end
-slice_bounds-copy-end c =
-    let size : ℕ = get_or c.args.sizes.now 0 0 in
-    let found : List ℕ = c.predecessor.new.out in
-    let behind : List ℕ = drop (size) c.args.out.now in
-    let whole : length (found) ≡ size = c.predecessor.auto.out ∙ ahead-out c.requires in
-    front_fits size found behind whole
+pub slice_bounds-copy_from_slice-end : goal.slice_bounds-copy_from_slice-end
+slice_bounds-copy_from_slice-end c = omega (arith, ahead-fits c.requires.holds, c.last_right.auto.trees)
 
-pub slice_bounds-copy-end-2 : goal.slice_bounds-copy-end-2
-slice_bounds-copy-end-2 c =
-    let size : ℕ = get_or c.args.sizes.now 0 0 in
-    let found : List ℕ = c.predecessor.new.out in
-    let behind : List ℕ = drop (size) c.args.out.now in
-    let whole : length (found) ≡ size = c.predecessor.auto.out ∙ ahead-out c.requires in
-    front_length size found behind whole
+pub slice_bounds-copy_from_slice-end-2 : goal.slice_bounds-copy_from_slice-end-2
+slice_bounds-copy_from_slice-end-2 c =
+    sym (length-take-le _ c.last_right.new.trees (omega (arith, ahead-fits c.requires.holds, c.last_right.auto.trees)))
 
-pub copy-requires : goal.copy-requires
-copy-requires c =
-    let size : ℕ = get_or c.args.sizes.now 0 0 in
-    let found : List ℕ = c.predecessor.new.out in
-    let behind : List ℕ = drop (size) c.args.out.now in
-    let whole : length (found) ≡ size = c.predecessor.auto.out ∙ ahead-out c.requires in
-    omega (arith, front_length size found behind whole, ahead-fits c.requires.holds, c.last_right.auto.trees)
+pub slice_bounds-copy_from_slice-end-3 : goal.slice_bounds-copy_from_slice-end-3
+slice_bounds-copy_from_slice-end-3 c = front_fits _ c.predecessor.new.out _ (c.predecessor.auto.out ∙ ahead-out c.requires)
+
+pub slice_bounds-copy_from_slice-end-4 : goal.slice_bounds-copy_from_slice-end-4
+slice_bounds-copy_from_slice-end-4 c = front_length _ c.predecessor.new.out _ (c.predecessor.auto.out ∙ ahead-out c.requires)
+
+pub copy_from_slice-requires : goal.copy_from_slice-requires
+copy_from_slice-requires c =
+    length-take-le _ c.last_right.new.trees (omega (arith, ahead-fits c.requires.holds, c.last_right.auto.trees))
+    ∙ front_length _ c.predecessor.new.out _ (c.predecessor.auto.out ∙ ahead-out c.requires)
 
 pub returns : goal.returns
 returns c =
-    let size : ℕ = get_or c.args.sizes.now 0 0 in
-    let behind : List ℕ = drop (size) c.args.out.now in
-    let found : List ℕ = c.predecessor.new.out in
-    retreat-some c.requires c.predecessor.result _ c.predecessor.ensures c.if-not-predecessor.false behind (take size (found ++ behind)) _ _ refl
-    c.last_right.ensures c.copy.ensures.output
+    retreat-some c.requires c.predecessor.result _ c.predecessor.ensures c.if-not-predecessor.false _ _ _ _ c.copy_from_slice.ensures.after
+    c.last_right.ensures refl

@@ -1,8 +1,11 @@
 use Rattle.greatest_period_entry.proofs.Cycles.{cycles-hold, cycles-room}
 use Rattle.greatest_period_entry.proofs.write_cycles.Goals as goal
 
-pub write_system-requires : goal.write_system-requires
-write_system-requires c = cycles-room c.requires c.set_all.ensures
+pub invariant_of-write : goal.invariant_of-write
+invariant_of-write c = let room = cycles-room c.requires (c.fill.ensures.after (λ y e. e)) in record { held = room.held }
+
+pub write-requires : goal.write-requires
+write-requires c = cycles-room c.requires (c.fill.ensures.after (λ y e. e))
 
 pub returns : goal.returns
-returns c = c.write_system.ensures _ (cycles-hold c.requires c.set_all.ensures)
+returns c = c.write.ensures _ (cycles-hold c.requires (c.fill.ensures.after (λ y e. e)))

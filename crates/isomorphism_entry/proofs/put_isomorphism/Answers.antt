@@ -1,24 +1,26 @@
-use mathlib.Core.Path.{sym, ◌∙◌}
-use Rattle.coding.proofs.CodedSizes.{components-few}
-use Rattle.isomorphism_entry.proofs.Compared.{systems-differ, labels-matched, systems-equal}
+use mathlib.Core.Path.{refl, sym}
+use mathlib.Core.Bool.{true≢false}
+use Rattle.isomorphism_entry.proofs.Compared.{same-length, systems-differ, labels-matched, systems-equal}
 use Rattle.isomorphism_entry.proofs.put_isomorphism.Goals as goal
-
-pub same_system-requires : goal.same_system-requires
-same_system-requires c =
-    let t = c.requires in
-    let a = c.coded-a in
-    let b = c.coded-b in
-    (components-few a.result a.ensures t.first, components-few b.result b.ensures t.second, t.first.small)
 
 pub returns-then-not-same_system : goal.returns-then-not-same_system
 returns-then-not-same_system c =
-    systems-differ c.requires c.coded-a.result c.coded-b.result c.coded-a.ensures c.coded-b.ensures
-    (sym c.same_system.ensures ∙ c.if-not-same_system.true) _
+    let f = c.args.f in
+    let g = c.args.g in
+    systems-differ (same-length f.table f.small g.table g.small c.requires) c.coded-a.result c.coded-b.result c.coded-a.ensures c.coded-b.ensures
+    (λ e. true≢false (sym (c.if-not-same_system.ensures.1 e))) _
 
 pub put_sent-requires : goal.put_sent-requires
-put_sent-requires c = labels-matched c.requires c.coded-a.result c.coded-b.result c.coded-a.ensures c.coded-b.ensures
+put_sent-requires c =
+    let f = c.args.f in
+    let g = c.args.g in
+    rw (c.labels.ensures, c.labels-2.ensures)
+    (labels-matched (same-length f.table f.small g.table g.small c.requires) c.coded-a.result c.coded-b.result c.coded-a.ensures c.coded-b.ensures)
 
 pub returns : goal.returns
 returns c =
-    systems-equal c.requires c.coded-a.result c.coded-b.result c.coded-a.ensures c.coded-b.ensures
-    (sym c.same_system.ensures ∙ c.if-not-same_system.false) c.put_sent.ensures
+    let f = c.args.f in
+    let g = c.args.g in
+    let sent = c.put_sent.ensures in
+    systems-equal (same-length f.table f.small g.table g.small c.requires) c.coded-a.result c.coded-b.result c.coded-a.ensures c.coded-b.ensures
+    (c.if-not-same_system.ensures.0 refl) (rw (c.labels.ensures, c.labels-2.ensures) at sent)

@@ -5,6 +5,5 @@ use Rattle.lines.proofs.put_spaced.Goals as goal
 pub returns : goal.returns
 returns c =
     let x = c.args.x in
-    let w = c.wide.ensures in
-    let p = spaced-added x c.put_byte-place.ensures (rw w.0 at c.put_decimal.ensures.added) in
-    (p, omega (arith, p.end, byte-length x (omega (arith, w))))
+    let p = spaced-added x c.put_byte-place.ensures (rw c.from.ensures at c.put_decimal.ensures.added) in
+    (p, omega (arith, p.end, byte-length x (omega arith)))

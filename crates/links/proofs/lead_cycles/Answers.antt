@@ -18,7 +18,7 @@ greater {f} {leads} {x} l h =
     subst (λ k. Lesser f leads k) e l
 
 pub loop-x-init : goal.loop-x-init
-loop-x-init c = lesser-start c.args.f.now _ _ c.set_all.ensures c.requires.room
+loop-x-init c = lesser-start c.args.table.images.now _ _ (c.fill.ensures.after (λ y f. f)) c.requires.room
 
 pub bounds-marks-x : goal.bounds-marks-x
 bounds-marks-x c = omega (arith, c.requires.marked.same, c.loop-x.invariant.passed)
@@ -27,14 +27,13 @@ pub next_lesser-y-requires : goal.next_lesser-y-requires
 next_lesser-y-requires c =
     let h = here c.loop-x.invariant c.loop-x-test.true in
     record {
-      table = c.requires.table;
       here = h;
       is_on_cycle = marks-on c.requires.marked h c.if-marks-x-ne0.true;
       greater = greater c.loop-x.invariant c.loop-x-test.true;
     }
 
 pub overflow_cast-leads : goal.overflow_cast-leads
-overflow_cast-leads c = omega (arith, c.next_lesser-y.ensures.not_above, c.loop-x.invariant.passed, c.requires.small)
+overflow_cast-leads c = omega (arith, c.next_lesser-y.ensures.not_above, c.loop-x.invariant.passed, c.args.table.small)
 
 pub bounds-leads-x : goal.bounds-leads-x
 bounds-leads-x c = omega (arith, c.loop-x.invariant.room, c.loop-x.invariant.passed)
@@ -57,4 +56,4 @@ shape_of-leads c = c.loop-x.invariant.room ∙ sym c.requires.room
 pub returns : goal.returns
 returns c =
     let e : c.loop-x.x ≡ 0 = omega arith in
-    lesser-end c.requires.small (subst (λ k. Lesser c.args.f.now c.loop-x.leads k) e c.loop-x.invariant)
+    lesser-end c.args.table.small (subst (λ k. Lesser c.args.table.images.now c.loop-x.leads k) e c.loop-x.invariant)

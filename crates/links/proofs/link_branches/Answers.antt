@@ -16,39 +16,37 @@ has-place : {f last before : List ℕ} {y : ℕ} → is_table f ≡ true → Lin
 has-place {f} {last} {before} {y} table l h = omega (arith, inside f table y h, l.last_room)
 
 pub loop-y-init : goal.loop-y-init
-loop-y-init c = (omega arith, links-none (c.set_all.ensures ∙ ap (λ n. replicate n 0) c.requires.last_room) c.requires.before_room)
+loop-y-init c = links-none (c.fill.ensures.after (λ y f. f) ∙ ap (λ n. replicate n 0) c.requires.last_room) c.requires.before_room
 
 pub bounds-last-x : goal.bounds-last-x
-bounds-last-x c = has-place c.requires.table c.loop-y.invariant.1 c.loop-y-test.true
+bounds-last-x c = has-place c.args.table.table c.loop-y.invariant c.loop-y-test.true
 
 pub bounds-before-y : goal.bounds-before-y
-bounds-before-y c = omega (arith, c.loop-y.invariant.1.before_room)
+bounds-before-y c = omega (arith, c.loop-y.invariant.before_room)
 
 pub overflow_cast-last : goal.overflow_cast-last
-overflow_cast-last c = omega (arith, c.requires.small)
+overflow_cast-last c = omega (arith, c.args.table.small)
 
 pub loop-y-preserved : goal.loop-y-preserved
 loop-y-preserved c =
     let m = c.requires.marked in
-    let l = c.loop-y.invariant.1 in
-    let t = c.loop-y-test.true in (
-      omega arith,
-      elim c.if-marks-y-eq0.branch [
-        | then-marks-y-eq0 w ↦ rw (w.last-is, w.before-is) (links-take m t l c.requires.table w.if-marks-y-eq0.true)
-        | else-marks-y-eq0 w ↦ rw (w.last-is, w.before-is) (links-skip m t l w.if-marks-y-eq0.false)
-      ],
-    )
+    let l = c.loop-y.invariant in
+    let t = c.loop-y-test.true in
+    elim c.if-marks-y-eq0.branch [
+      | then-marks-y-eq0 w ↦ rw (w.last-is, w.before-is) (links-take m t l c.args.table.table w.if-marks-y-eq0.true)
+      | else-marks-y-eq0 w ↦ rw (w.last-is, w.before-is) (links-skip m t l w.if-marks-y-eq0.false)
+    ]
 
 pub shape_of-last : goal.shape_of-last
-shape_of-last c = c.loop-y.invariant.1.last_room ∙ sym c.requires.last_room
+shape_of-last c = c.loop-y.invariant.last_room ∙ sym c.requires.last_room
 
 pub shape_of-before : goal.shape_of-before
-shape_of-before c = c.loop-y.invariant.1.before_room ∙ sym c.requires.before_room
+shape_of-before c = c.loop-y.invariant.before_room ∙ sym c.requires.before_room
 
 pub returns : goal.returns
 returns c =
-    let e : c.loop-y.y ≡ length c.args.f.now = omega arith in
-    rw e at c.loop-y.invariant.1
+    let e : c.loop-y.y ≡ length c.args.table.images.now = omega arith in
+    rw e at c.loop-y.invariant
 
 pub bounds-last-x-then-marks-y-eq0 : goal.bounds-last-x-then-marks-y-eq0
-bounds-last-x-then-marks-y-eq0 c = has-place c.requires.table c.loop-y.invariant.1 c.loop-y-test.true
+bounds-last-x-then-marks-y-eq0 c = has-place c.args.table.table c.loop-y.invariant c.loop-y-test.true

@@ -13,5 +13,5 @@ overflow_add-count c =
 
 pub returns : goal.returns
 returns c =
-    added-put _ (omega arith) c.put_line-end.ensures (line-some (c.args.lines + 1) c.args.code.now)
-    c.next_state-next.ensures (line-text c.args.lines c.requires.0)
+    added-put _ (omega arith) c.put_line-len.ensures (line-some (c.args.lines + 1) c.args.code.now)
+    c.after-next.ensures (line-text c.args.lines c.requires.0)

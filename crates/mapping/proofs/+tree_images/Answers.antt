@@ -1,12 +1,9 @@
-use mathlib.Core.Path.{refl, ◌∙◌}
+use mathlib.Core.Path.{◌∙◌}
 use native.Mathlib.Omega.{arith}
 use lib.ListN.{length-set}
 use Rattle.memory.proofs.Standing.{stands-head}
-use Rattle.mapping.proofs.Imaging.{imaging-start, imaging-end, asked-bounds, asked-branch, asked-later, images-next}
+use Rattle.mapping.proofs.Imaging.{imaging-end, asked-bounds, asked-branch, asked-later, images-next}
 use Rattle.mapping.proofs.+tree_images.Goals as goal
-
-pub loop-q-init : goal.loop-q-init
-loop-q-init t c = (refl, λ u s. imaging-start u c.args.p c.args.out.now)
 
 pub bounds-out-q : goal.bounds-out-q
 bounds-out-q t c = let l = c.loop-q in omega (arith, asked-bounds c.requires, c.requires.room.same, l.invariant.0)

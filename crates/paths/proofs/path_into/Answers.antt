@@ -1,6 +1,6 @@
 use mathlib.Core.Path.{◌≡◌, ap}
 use mathlib.Core.List.{List}
-use Prim.Native.Nat.{ℕ, ◌+◌, ◌-◌}
+use Prim.Native.Nat.{ℕ, ◌+◌, ◌-◌, ◌<◌}
 use native.Mathlib.Omega.{arith}
 use lib.ListN.{length, take, drop}
 use Rattle.patterns.specs.Component.{Component, flat}
@@ -16,8 +16,8 @@ led : {s₀ keys₀ s keys : List ℕ} {trees lead at k : ℕ} (w : Tracing s₀
     → ((c : Component) → take (length s - lead) (drop lead s) ≡ flat c → k ≡ leading_points c) → lead + k ≡ leading_points w.reached
 led {lead = lead} w f = tracing-lead w (f (drop lead w.reached) (tracing-ahead w))
 
-pub count-trees-requires : goal.count-trees-requires
-count-trees-requires c = let h = c.requires in record { trees = h.trees; is = h.is }
+back-step : (n : ℕ) → 0 < n → n - 1 + 1 ≡ n
+back-step n h = omega arith
 
 pub loop-at-init : goal.loop-at-init
 loop-at-init c =
@@ -44,7 +44,7 @@ overflow_add-lead c = let w = c.loop-at.invariant in omega (arith, led w c.leadi
 pub returns-then-s-lead : goal.returns-then-s-lead
 returns-then-s-lead c =
     let l = c.loop-at in
-    tracing-root l.invariant (climbed-root l.s _ l.invariant.reached l.invariant.is (led l.invariant c.leading-lead.ensures) (omega arith))
+    rw (back-step c.loop-at.at (omega arith)) (tracing-root l.invariant (climbed-root l.s _ l.invariant.reached l.invariant.is (led l.invariant c.leading-lead.ensures) (omega arith)))
 
 pub unmerge_at-key-requires : goal.unmerge_at-key-requires
 unmerge_at-key-requires c =
@@ -65,4 +65,7 @@ loop-at-preserved c =
     tracing-step w (omega arith) (led w c.leading-lead.ensures) (c.unmerge_at-key.ensures w.reached w.is)
 
 pub returns : goal.returns
-returns c = tracing-end c.loop-at.invariant (omega arith)
+returns c =
+    let w = c.loop-at.invariant in
+    let z : c.loop-at.at ≡ 0 = omega arith in
+    rw (← z) (tracing-end w z)

@@ -3,6 +3,3 @@ use Rattle.paths.proofs.path_into.Given as goal
 
 abbrev pub invariant-loop-at : goal.invariant-loop-at
 invariant-loop-at l = Tracing l.initial.s l.initial.keys l.s l.keys l.trees l.lead l.at
-
-abbrev pub decreases-loop-at : goal.decreases-loop-at
-decreases-loop-at l = l.at

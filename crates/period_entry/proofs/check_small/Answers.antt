@@ -1,14 +1,13 @@
-use mathlib.Core.Path.{ap, ◌∙◌}
 use native.Mathlib.Omega.{arith}
-use Rattle.tables.specs.Tables.{table_reply}
-use Rattle.period_entry.proofs.SmallTables.{refused-count, refused-large, checked-same}
+use Rattle.tables.proofs.SmallTables.{small_count, small-large}
+use Rattle.period_entry.proofs.SmallTables.{small-checked}
 use Rattle.period_entry.proofs.check_small.Goals as goal
 
-pub returns-then-table-gt200 : goal.returns-then-table-gt200
-returns-then-table-gt200 c = refused-count c.args.table.now (omega arith)
+pub returns-then-images-gt200 : goal.returns-then-images-gt200
+returns-then-images-gt200 c = small_count c.args.images.now (omega arith)
 
-pub returns-then-table-gt120 : goal.returns-then-table-gt120
-returns-then-table-gt120 c = refused-large c.args.table.now (omega arith) (omega arith)
+pub returns-then-images-gt120 : goal.returns-then-images-gt120
+returns-then-images-gt120 c = small-large c.args.images.now (omega arith) (omega arith)
 
 pub returns : goal.returns
-returns c = c.check_table.ensures ∙ ap table_reply (checked-same c.args.table.now (omega arith))
+returns c = small-checked c.args.images.now c.check.result (omega arith) c.check.ensures

@@ -1,17 +1,18 @@
 use mathlib.Core.Path.{ap}
+use Rattle.std.proofs.lemmas.Result.{err_from_is_err_and}
 use Rattle.patterns.specs.Replies.{length_is}
 use Rattle.patterns.specs.Period.{period_of}
-use Rattle.period_entry.proofs.SmallTables.{small-refused, small-checked}
 use Rattle.period_entry.proofs.period.Goals as goal
 
 pub period_in-requires : goal.period_in-requires
-period_in-requires c = (small-checked c.args.table.now c.check_small.ensures c.in-Length.field-0 c.in-Length.is).1
+period_in-requires c = rw c.in_ok-small.ensures.0 c.in_ok-small.ensures.2
 
-pub returns-in-Refused : goal.returns-in-Refused
+pub returns-in_err-small : goal.returns-in_err-small
 unfolding period_of
-returns-in-Refused c = rw (small-refused c.args.table.now c.check_small.ensures c.in-Refused.cause c.in-Refused.is)
+returns-in_err-small c =
+    let p = err_from_is_err_and c.from_residual.result c.from_residual.ensures.1 in
+    rw (p.1, p.2, c.in_err-small.ensures)
 
-pub returns-in-Length : goal.returns-in-Length
+pub returns : goal.returns
 unfolding period_of
-returns-in-Length c =
-    rw (small-checked c.args.table.now c.check_small.ensures c.in-Length.field-0 c.in-Length.is).0 (ap length_is c.period_in.ensures)
+returns c = rw c.in_ok-small.ensures.1 (ap length_is (rw c.in_ok-small.ensures.0 at c.period_in.ensures))

@@ -1,5 +1,4 @@
 use mathlib.Core.List.{[]}
-use native.Mathlib.Omega.{arith}
 use Rattle.system_theory.specs.StepBack.{previous_sizes, lasts, fall, step_back_of}
 use Rattle.system_theory.proofs.StepBack.{step_back_of-keeps}
 use Rattle.system_theory.proofs.BackScan.{step_back_of-fall, step_back_of-sizes, step_back_of-none}
@@ -20,29 +19,28 @@ fall-requires c = step-held c.requires
 pub returns-then-fall : goal.returns-then-fall
 returns-then-fall c = step_same c.requires backward c.fall.result _ c.fall.ensures c.if-fall.true
 
-pub previous_sizes-k-requires : goal.previous_sizes-k-requires
-previous_sizes-k-requires c = step_room c.requires
+pub previous_sizes-requires : goal.previous_sizes-requires
+previous_sizes-requires c = step_room c.requires
 
-pub returns-then-k-eq0 : goal.returns-then-k-eq0
-returns-then-k-eq0 c =
-    step-ends c.requires backward c.fall.result _ c.fall.ensures c.if-fall.false c.previous_sizes-k.result _ c.previous_sizes-k.ensures c.if-k-eq0.true _
+pub returns-in_err-k : goal.returns-in_err-k
+returns-in_err-k c = rw c.from_residual.ensures (step-ends c.requires backward c.fall.result _ c.fall.ensures c.if-fall.false _ c.in_err-k.ensures _)
 
 pub slice_bounds-last_right-end : goal.slice_bounds-last_right-end
 slice_bounds-last_right-end c =
-    let other : Other c.requires step_back_of lasts c.previous_sizes-k.result c.previous_sizes-k.new.sizes c.fall.new.trees = step_other c.requires backward c.fall.result _ c.fall.ensures c.if-fall.false c.previous_sizes-k.result _ c.previous_sizes-k.ensures (λ z. omega arith) c.fall.auto.trees in
+    let other : Other c.requires step_back_of lasts c.in_ok-k.k c.previous_sizes.new.sizes c.fall.new.trees = step_other c.requires backward c.fall.result _ c.fall.ensures c.if-fall.false c.previous_sizes.new.sizes c.in_ok-k.k c.in_ok-k.ensures c.fall.auto.trees in
     other.few
 
 pub slice_bounds-last_right-end-2 : goal.slice_bounds-last_right-end-2
 slice_bounds-last_right-end-2 c =
-    let other : Other c.requires step_back_of lasts c.previous_sizes-k.result c.previous_sizes-k.new.sizes c.fall.new.trees = step_other c.requires backward c.fall.result _ c.fall.ensures c.if-fall.false c.previous_sizes-k.result _ c.previous_sizes-k.ensures (λ z. omega arith) c.fall.auto.trees in
+    let other : Other c.requires step_back_of lasts c.in_ok-k.k c.previous_sizes.new.sizes c.fall.new.trees = step_other c.requires backward c.fall.result _ c.fall.ensures c.if-fall.false c.previous_sizes.new.sizes c.in_ok-k.k c.in_ok-k.ensures c.fall.auto.trees in
     other-count c.requires backward other
 
 pub last_right-requires : goal.last_right-requires
 last_right-requires c =
-    let other : Other c.requires step_back_of lasts c.previous_sizes-k.result c.previous_sizes-k.new.sizes c.fall.new.trees = step_other c.requires backward c.fall.result _ c.fall.ensures c.if-fall.false c.previous_sizes-k.result _ c.previous_sizes-k.ensures (λ z. omega arith) c.fall.auto.trees in
+    let other : Other c.requires step_back_of lasts c.in_ok-k.k c.previous_sizes.new.sizes c.fall.new.trees = step_other c.requires backward c.fall.result _ c.fall.ensures c.if-fall.false c.previous_sizes.new.sizes c.in_ok-k.k c.in_ok-k.ensures c.fall.auto.trees in
     other-sum c.requires backward other
 
 pub returns : goal.returns
 returns c =
-    let other : Other c.requires step_back_of lasts c.previous_sizes-k.result c.previous_sizes-k.new.sizes c.fall.new.trees = step_other c.requires backward c.fall.result _ c.fall.ensures c.if-fall.false c.previous_sizes-k.result _ c.previous_sizes-k.ensures (λ z. omega arith) c.fall.auto.trees in
+    let other : Other c.requires step_back_of lasts c.in_ok-k.k c.previous_sizes.new.sizes c.fall.new.trees = step_other c.requires backward c.fall.result _ c.fall.ensures c.if-fall.false c.previous_sizes.new.sizes c.in_ok-k.k c.in_ok-k.ensures c.fall.auto.trees in
     step-filled c.requires backward other _ c.last_right.ensures

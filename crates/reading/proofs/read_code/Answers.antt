@@ -1,18 +1,14 @@
-use native.Mathlib.Omega.{arith}
-use Rattle.reading.proofs.Kept.{uncut-refused, few-read, many_read}
+use Rattle.std.proofs.Common.{refl}
+use Rattle.std.proofs.lemmas.Result.{err_from_is_err_and}
+use Rattle.reading.proofs.Kept.{uncut-refused, first-read}
 use Rattle.reading.proofs.read_code.Goals as goal
 
-pub returns-then-count-lt-KEPT : goal.returns-then-count-lt-KEPT
-returns-then-count-lt-KEPT c =
+pub returns-in_err-count : goal.returns-in_err-count
+returns-in_err-count c =
+    let p = err_from_is_err_and c.from_residual.result c.from_residual.ensures.1 in
+    rw (p.1, p.2) (uncut-refused c.cut_into.ensures c.in_err-count.field-0.0 _ _ c.in_err-count.was)
+
+pub returns : goal.returns
+returns c =
     let call = c.read_system in
-    few-read c.cut_into.ensures c.in-Number.count c.in-Number.field-1 c.blank-first.ensures c.in-Number.is call.result
-    call.new.sizes call.new.trees (omega arith) call.ensures
-
-pub returns-in-Refused : goal.returns-in-Refused
-returns-in-Refused c = uncut-refused c.cut_into.ensures c.in-Refused.cause _ _ c.in-Refused.is
-
-pub returns-else-count-lt-KEPT : goal.returns-else-count-lt-KEPT
-returns-else-count-lt-KEPT c =
-    let call = c.read_system-in-Number in
-    many_read c.cut_into.ensures c.in-Number.count c.in-Number.field-1 c.blank-first.ensures c.in-Number.is call.result
-    call.new.sizes call.new.trees (omega arith) call.ensures
+    first-read c.cut_into.ensures c.in_ok-count.count refl c.in_ok-count.was call.result call.new.sizes call.new.trees (rw c.min.ensures at call.ensures)

@@ -1,34 +1,24 @@
-use mathlib.Core.Path.{ap, sym, ◌∙◌}
-use lib.ListN.{length-take}
+use Rattle.std.proofs.Common.{◌≡◌, ap, ◌∙◌, rules}
+use Rattle.std.specs.Ordering.{MatchOrdering}
+use Rattle.std.specs.declared.cmp.Ordering.TheVariants.{Less, Greater}
+use Rattle.lists.specs.Order.{then}
 use Rattle.lists.specs.Blocks.{ordering_of}
-use Rattle.rotation.proofs.LeastTurn.{between-less, between-greater, between-then-less, between-then-greater, between-last}
-use native.Mathlib.Omega.{arith}
+use Rattle.rotation.proofs.LeastTurn.{is_le-ordering_of, chained, one, two, three, between}
 use Rattle.rotation.proofs.at_most_between.Goals as goal
 
-pub slice_bounds-compare-end-in-Equal-2 : goal.slice_bounds-compare-end-in-Equal-2
-slice_bounds-compare-end-in-Equal-2 c = rw length-take (omega arith)
-
-pub slice_bounds-at_most-end : goal.slice_bounds-at_most-end
-slice_bounds-at_most-end c = rw length-take (omega arith)
-
-pub returns-in-Less : goal.returns-in-Less
-returns-in-Less c = between-less c.args.s.now c.args.a c.args.b c.requires.0 c.requires.1 (sym c.compare.ensures ∙ ap ordering_of c.in-Less.is)
-
-pub returns-in-Greater : goal.returns-in-Greater
-returns-in-Greater c = between-greater c.args.s.now c.args.a c.args.b c.requires.0 c.requires.1 (sym c.compare.ensures ∙ ap ordering_of c.in-Greater.is)
-
-pub returns-in-Less-compare : goal.returns-in-Less-compare
-returns-in-Less-compare c =
-    between-then-less c.args.s.now c.args.a c.args.b c.requires.0 c.requires.1 (sym c.compare.ensures ∙ ap ordering_of c.in-Equal.is)
-    (sym c.compare-in-Equal.ensures ∙ ap ordering_of c.in-Less-compare.is)
-
-pub returns-in-Greater-compare : goal.returns-in-Greater-compare
-returns-in-Greater-compare c =
-    between-then-greater c.args.s.now c.args.a c.args.b c.requires.0 c.requires.1 (sym c.compare.ensures ∙ ap ordering_of c.in-Equal.is)
-    (sym c.compare-in-Equal.ensures ∙ ap ordering_of c.in-Greater-compare.is)
-
-pub returns-in-Equal-compare : goal.returns-in-Equal-compare
-returns-in-Equal-compare c =
-    c.at_most.ensures
-    ∙ between-last c.args.s.now c.args.a c.args.b c.requires.0 c.requires.1 (sym c.compare.ensures ∙ ap ordering_of c.in-Equal.is)
-    (sym c.compare-in-Equal.ensures ∙ ap ordering_of c.in-Equal-compare.is)
+pub returns : goal.returns
+returns c =
+    let s = c.args.s.now in
+    let a = c.args.a in
+    let b = c.args.b in
+    let h = c.requires.0 in
+    let k = c.requires.1 in
+    let q = c.then_with.result in
+    let r = c.then_with-2.result in
+    let f : MatchOrdering c.compare.result (q ≡ Less) (ordering_of q ≡ two s a b h k) (q ≡ Greater) = search rules in
+    let g : MatchOrdering q (r ≡ Less) (ordering_of r ≡ three s a b h k) (r ≡ Greater) = search rules in
+    let first : ordering_of q ≡ then (one s a b h k) (two s a b h k) =
+    chained c.compare.result q (two s a b h k) f ∙ ap (λ o. then o (two s a b h k)) c.compare.ensures in
+    let all : ordering_of r ≡ then (then (one s a b h k) (two s a b h k)) (three s a b h k) =
+    chained q r (three s a b h k) g ∙ ap (λ o. then o (three s a b h k)) first in
+    c.is_le.ensures ∙ is_le-ordering_of r ∙ rw all (between s a b h k)

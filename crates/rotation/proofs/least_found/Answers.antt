@@ -13,9 +13,6 @@ loop-p-init c =
 pub at_most_between-requires : goal.at_most_between-requires
 at_most_between-requires c = (best-within c.loop-p.invariant, omega arith)
 
-pub overflow_cast-p : goal.overflow_cast-p
-overflow_cast-p c = omega (arith, c.type_inv.s c.loop-p.p)
-
 pub overflow_add-p : goal.overflow_add-p
 overflow_add-p c =
     let n = along-next c.loop-p.invariant (omega arith) in

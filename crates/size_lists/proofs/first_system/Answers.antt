@@ -6,4 +6,4 @@ use Rattle.size_lists.proofs.first_system.Goals as goal
 pub returns : goal.returns
 returns c =
     let n = length c.args.sizes.now in
-    λ S e. first-held n _ _ c.set_all.ensures (c.set_all-2.ensures ∙ ap (λ k. replicate k 1) (sym c.requires)) S e
+    λ S e. first-held n _ _ (c.fill.ensures.after (λ y f. f)) (c.fill-2.ensures.after (λ y f. f) ∙ ap (λ k. replicate k 1) (sym c.requires)) S e

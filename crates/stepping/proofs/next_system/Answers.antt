@@ -1,6 +1,5 @@
 use mathlib.Core.Path.{ap, sym, ◌∙◌}
 use mathlib.Core.List.{map}
-use native.Mathlib.Omega.{arith}
 use lib.ListN.{take, replicate}
 use Rattle.system_theory.specs.Step.{next_sizes, cycle, bump, step}
 use Rattle.system_theory.proofs.Step.{step_keeps}
@@ -23,17 +22,16 @@ bump-requires c = step-held c.requires
 pub returns-then-bump : goal.returns-then-bump
 returns-then-bump c = step_same c.requires forward c.bump.result _ c.bump.ensures c.if-bump.true
 
-pub next_sizes-k-requires : goal.next_sizes-k-requires
-next_sizes-k-requires c = step_room c.requires
+pub next_sizes-requires : goal.next_sizes-requires
+next_sizes-requires c = step_room c.requires
 
-pub returns-then-k-eq0 : goal.returns-then-k-eq0
-returns-then-k-eq0 c =
-    step-ends c.requires forward c.bump.result _ c.bump.ensures c.if-bump.false c.next_sizes-k.result _ c.next_sizes-k.ensures c.if-k-eq0.true _
+pub returns-in_err-k : goal.returns-in_err-k
+returns-in_err-k c = rw c.from_residual.ensures (step-ends c.requires forward c.bump.result _ c.bump.ensures c.if-bump.false _ c.in_err-k.ensures _)
 
 pub returns : goal.returns
 returns c =
-    let other : Other c.requires step (map cycle) c.next_sizes-k.result c.next_sizes-k.new.sizes c.bump.new.trees = step_other c.requires forward c.bump.result _ c.bump.ensures c.if-bump.false c.next_sizes-k.result _ c.next_sizes-k.ensures (λ z. omega arith) c.bump.auto.trees in
-    let n = c.next_sizes-k in
     let w = c.requires in
+    let n = c.next_sizes.new.sizes in
+    let other : Other w step (map cycle) c.in_ok-k.k n c.bump.new.trees = step_other w forward c.bump.result _ c.bump.ensures c.if-bump.false n c.in_ok-k.k c.in_ok-k.ensures c.bump.auto.trees in
     step-filled w forward other _
-    (c.set_all.ensures ∙ ap (λ j. replicate j 1) (sym (other-sum w forward other)) ∙ sym (flat-cycles (take n.result n.new.sizes)))
+    (c.fill.ensures.after (λ y f. f) ∙ ap (λ j. replicate j 1) (sym (other-sum w forward other)) ∙ sym (flat-cycles (take c.in_ok-k.k n)))

@@ -1,34 +1,20 @@
-use Prim.Native.Nat.{◌≤◌}
-use native.Mathlib.Omega.{arith}
-use lib.ListN.{length, length-take}
+use Rattle.std.proofs.lemmas.Result.{err_from_is_err_and}
 use Rattle.step_replies.proofs.StepReplies.{next-told, beside-within, beside-held, beside_none, beside-put}
 use Rattle.successor_entry.proofs.put_next.Goals as goal
 
-pub slice_bounds-put_system-end : goal.slice_bounds-put_system-end
-slice_bounds-put_system-end c =
-    let within : c.in-To.k ≤ length c.follow.new.sizes = let s = c.follow in
-    beside-within next-told c.requires s.result s.new.sizes s.new.trees s.ensures c.in-To.k c.in-To.is s.auto.sizes in
-    within
+pub slice_bounds-sizes-end : goal.slice_bounds-sizes-end
+slice_bounds-sizes-end c = beside-within next-told c.requires c.follow.result c.follow.new.sizes c.follow.new.trees c.follow.ensures c.in-Some.k c.in-Some.is c.follow.auto.sizes
 
-pub slice_bounds-put_system-end-in-To : goal.slice_bounds-put_system-end-in-To
-slice_bounds-put_system-end-in-To c =
-    let within : c.in-To.k ≤ length c.follow.new.sizes = let s = c.follow in
-    beside-within next-told c.requires s.result s.new.sizes s.new.trees s.ensures c.in-To.k c.in-To.is s.auto.sizes in
-    let fits = within in rw length-take (omega arith)
+pub invariant_of-put : goal.invariant_of-put
+invariant_of-put c = record { held = beside-held next-told c.requires c.follow.result c.follow.new.sizes c.follow.new.trees c.follow.ensures c.in-Some.k c.in-Some.is c.follow.auto.sizes }
 
-pub put_system-requires : goal.put_system-requires
-put_system-requires c =
-    let s = c.follow in
-    beside-held next-told c.requires s.result s.new.sizes s.new.trees s.ensures c.in-To.k c.in-To.is s.auto.sizes
+pub returns-in_default : goal.returns-in_default
+returns-in_default c = beside_none next-told c.requires c.follow.result c.follow.new.sizes c.follow.new.trees c.follow.ensures c.in_default.is c.args.out.now
 
-pub returns-in-Ended : goal.returns-in-Ended
-returns-in-Ended c =
-    let s = c.follow in
-    beside_none next-told c.requires s.result s.new.sizes s.new.trees s.ensures c.in-Ended.is c.args.out.now
+pub returns-in_err-length : goal.returns-in_err-length
+returns-in_err-length c =
+    let p = err_from_is_err_and c.from_residual.result c.from_residual.ensures.1 in
+    rw (p.1, p.2) (beside-put next-told c.requires c.follow.result c.follow.new.sizes c.follow.new.trees c.follow.ensures c.in-Some.k c.in-Some.is c.in_err-length.ensures)
 
-pub returns-in-To : goal.returns-in-To
-returns-in-To c =
-    let s = c.follow in
-    λ S h.
-    rw c.as_successor.ensures
-    (beside-put next-told c.requires s.result s.new.sizes s.new.trees s.ensures c.in-To.k c.in-To.is c.put_system.ensures S h)
+pub returns : goal.returns
+returns c = beside-put next-told c.requires c.follow.result c.follow.new.sizes c.follow.new.trees c.follow.ensures c.in-Some.k c.in-Some.is c.in_ok-length.ensures

@@ -1,38 +1,23 @@
 use mathlib.Core.Path.{sym, ◌∙◌}
-use Prim.Native.Nat.{◌+◌, ◌≤◌}
 use native.Mathlib.Omega.{arith}
-use lib.ListN.{length, get_or}
-use Rattle.system_symmetries.proofs.EqualComponents.{equal-start, next-within, equal_next, other-next, equal-end}
+use Rattle.system_symmetries.proofs.EqualComponents.{next-within, equal_next, other-next, equal-end}
 use Rattle.system_symmetries.proofs.equal_components.Goals as goal
 use Rattle.system_symmetries.proofs.equal_components.Goals.{then-equal, else-equal}
 
-pub loop-i-init : goal.loop-i-init
-loop-i-init c = equal-start c.requires
-
--- The places: the size of a component has been read; it has been compared.
-pub overflow_cast-end : goal.overflow_cast-end
-overflow_cast-end c = omega (arith, c.type_inv.sizes c.loop-i.i)
-
+-- The component at the place ends within the trees; it has been compared.
 pub overflow_add-end : goal.overflow_add-end
-overflow_add-end c =
-    let within : c.loop-i.at + get_or c.args.sizes.now c.loop-i.i 0 ≤ length c.args.trees.now = next-within c.loop-i.invariant (omega arith) in
-    omega (arith, within)
+overflow_add-end c = omega (arith, next-within c.loop-size.invariant c.loop-size-test.true)
 
 pub slice_bounds-equal-end : goal.slice_bounds-equal-end
-slice_bounds-equal-end c =
-    let within : c.loop-i.at + get_or c.args.sizes.now c.loop-i.i 0 ≤ length c.args.trees.now = next-within c.loop-i.invariant (omega arith) in
-    omega (arith, within)
+slice_bounds-equal-end c = omega (arith, next-within c.loop-size.invariant c.loop-size-test.true)
 
-pub overflow_add-n : goal.overflow_add-n
-overflow_add-n c = omega (arith, c.loop-i.invariant.fewer)
-
-pub loop-i-preserved : goal.loop-i-preserved
-loop-i-preserved c =
-    let l = c.loop-i.invariant in
+pub loop-size-preserved : goal.loop-size-preserved
+loop-size-preserved c =
+    let l = c.loop-size.invariant in
     elim c.if-equal.branch [
-      | then-equal w ↦ rw w.n-is (equal_next l c.loop-i-test.true (sym c.equal.ensures ∙ w.if-equal.true))
-      | else-equal w ↦ rw w.n-is (other-next l c.loop-i-test.true (sym c.equal.ensures ∙ w.if-equal.false))
+      | then-equal w ↦ rw (w.n-is, w.at-is) (equal_next l c.loop-size-test.true (sym c.equal.ensures ∙ w.if-equal.true))
+      | else-equal w ↦ rw (w.n-is, w.at-is) (other-next l c.loop-size-test.true (sym c.equal.ensures ∙ w.if-equal.false))
     ]
 
 pub returns : goal.returns
-returns c = λ d R e h. equal-end c.loop-i.invariant (omega arith) d R e h
+returns c = equal-end c.loop-size.invariant c.loop-size-test.false

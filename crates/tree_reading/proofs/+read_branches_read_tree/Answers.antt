@@ -1,6 +1,7 @@
 use mathlib.Core.Path.{sym}
 use Prim.Native.Nat.{suc, ◌+◌}
 use native.Mathlib.Omega.{arith}
+use Rattle.std.proofs.lemmas.Result.{err_from_is_err_and}
 use Rattle.tree_reading.proofs.TreesRead.{tree-ended, tree-empty, tree-large, tree-leaf, tree-branches, tree-past, branches-none, branches-refused, branches-next}
 use Rattle.tree_reading.proofs.+read_branches_read_tree.Goals as goal
 
@@ -9,32 +10,33 @@ use Rattle.tree_reading.proofs.+read_branches_read_tree.Goals as goal
 pub read_branches-returns-then-left-eq0 : goal.read_branches-returns-then-left-eq0
 read_branches-returns-then-left-eq0 t c = let a = c.args in λ f h. branches-none a.s.now a.at a.left f h (omega arith)
 
-pub read_branches-returns-in_default : goal.read_branches-returns-in_default
-read_branches-returns-in_default t c =
+pub read_branches-returns-in_err-next : goal.read_branches-returns-in_err-next
+read_branches-returns-in_err-next t c =
     let a = c.args in
-    let call = c.read_tree-tree in
-    λ f h. branches-refused a.s.now a.at a.left call.result call.ensures f c.in_default.field-0 h (omega arith) c.in_default.is
+    let call = c.read_tree in
+    let p = err_from_is_err_and c.from_residual.result c.from_residual.ensures.1 in
+    λ f h. rw (p.1, p.2) (branches-refused a.s.now a.at a.left call.result call.ensures f c.in_err-next.field-0.0 h (omega arith) c.in_err-next.was)
 
 -- the first tree has been read
 pub read_branches-overflow_sub-left : goal.read_branches-overflow_sub-left
 read_branches-overflow_sub-left t c =
     let a = c.args in
-    (tree-past a.s.now a.at a.left c.in-Past.next (sym (c.in-Past.ensures (suc (a.left + a.left)) (omega arith)))).1
+    (tree-past a.s.now a.at a.left c.in_ok-next.next (sym (c.in_ok-next.ensures (suc (a.left + a.left)) (omega arith)))).1
 
 pub read_branches-read_branches-requires : goal.read_branches-read_branches-requires
 read_branches-read_branches-requires t c =
     let a = c.args in
-    let e = tree-past a.s.now a.at a.left c.in-Past.next (sym (c.in-Past.ensures (suc (a.left + a.left)) (omega arith))) in
+    let e = tree-past a.s.now a.at a.left c.in_ok-next.next (sym (c.in_ok-next.ensures (suc (a.left + a.left)) (omega arith))) in
     (omega (arith, e.0, e.1), tt)
 
 pub read_branches-returns : goal.read_branches-returns
 read_branches-returns t c =
     let a = c.args in
-    let call = c.read_tree-tree in
+    let call = c.read_tree in
     let rest = c.read_branches in
     λ f h.
-    branches-next a.s.now a.at a.left call.result call.ensures f c.in-Past.next rest.result h (omega arith)
-    c.in-Past.is rest.ensures
+    branches-next a.s.now a.at a.left call.result call.ensures f c.in_ok-next.next rest.result h (omega arith)
+    c.in_ok-next.was rest.ensures
 
 -- A tree.
 
@@ -60,4 +62,4 @@ pub read_tree-returns : goal.read_tree-returns
 read_tree-returns t c =
     let a = c.args in
     let call = c.read_branches in
-    λ f h. tree-branches a.s.now a.at a.limit f call.result h (omega arith) (omega arith) (omega arith) call.ensures
+    λ f h. tree-branches a.s.now a.at a.limit f call.result h (omega arith) (omega arith) (omega arith) (rw c.from-x.ensures at call.ensures)

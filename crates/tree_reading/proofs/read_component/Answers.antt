@@ -17,4 +17,4 @@ returns-then-left-k c =
 pub returns : goal.returns
 returns c =
     let a = c.args in
-    c.read_trees.ensures ∙ component-trees a.s.now a.at a.left (omega arith) (omega arith) (omega arith)
+    rw c.from-k.ensures at c.read_trees.ensures ∙ component-trees a.s.now a.at a.left (omega arith) (omega arith) (omega arith)

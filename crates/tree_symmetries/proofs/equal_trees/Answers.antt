@@ -14,15 +14,6 @@ loop-at-init c =
     let h = c.requires in
     along-start h (EqualAhead a.tree.now 0) (none_ahead a.tree.now h.trees)
 
--- The places: the size of a tree has been read; it has been compared.
-pub overflow_cast-end : goal.overflow_cast-end
-overflow_cast-end c = omega (arith, c.type_inv.row c.loop-at.at)
-
-pub overflow_add-end : goal.overflow_add-end
-overflow_add-end c =
-    let here : Next c.args.row.now c.loop-at.at c.loop-at.invariant.rest = along-next c.loop-at.invariant (omega arith) in
-    omega (arith, here)
-
 pub slice_bounds-equal-end : goal.slice_bounds-equal-end
 slice_bounds-equal-end c =
     let here : Next c.args.row.now c.loop-at.at c.loop-at.invariant.rest = along-next c.loop-at.invariant (omega arith) in

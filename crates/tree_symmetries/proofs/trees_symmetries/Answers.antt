@@ -13,16 +13,6 @@ use Rattle.tree_symmetries.proofs.trees_symmetries.Goals as goal
 pub loop-at-init : goal.loop-at-init
 loop-at-init c = along-start c.requires.0 (Multiplied 1) refl
 
--- The places: the size of a tree has been read; its symmetries are known.
-pub overflow_cast-end : goal.overflow_cast-end
-overflow_cast-end c =
-    omega (arith, c.type_inv.s c.loop-at.at)
-
-pub overflow_add-end : goal.overflow_add-end
-overflow_add-end c =
-    let here : Next c.args.s.now c.loop-at.at c.loop-at.invariant.rest = along-next c.loop-at.invariant (omega arith) in
-    omega (arith, here)
-
 pub slice_bounds-tree_symmetries-end : goal.slice_bounds-tree_symmetries-end
 slice_bounds-tree_symmetries-end c =
     let here : Next c.args.s.now c.loop-at.at c.loop-at.invariant.rest = along-next c.loop-at.invariant (omega arith) in

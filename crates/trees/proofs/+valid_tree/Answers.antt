@@ -8,7 +8,7 @@ use Rattle.patterns.proofs.Trees.{merge-valid, length-code, size-positive}
 use Rattle.memory.specs.Memory.{HeldTree}
 use Rattle.trees.specs.Beginnings.{leading_points, last_start, star}
 use Rattle.trees.proofs.Walks.{Inside, inside-length, inside-next, inside-step, inside-end, inside-order, inside-fails, merge-invalid, merge-unordered, next-stretch}
-use Rattle.trees.proofs.FirstPoints.{inside-points, star-valid}
+use Rattle.trees.proofs.FirstPoints.{inside-points, star-valid, max-star}
 use Rattle.trees.proofs.+valid_tree.Goals as goal
 
 -- behind the branches that are points
@@ -20,7 +20,7 @@ pub overflow_add-at : goal.overflow_add-at
 overflow_add-at t c = omega (arith, inside-length (begun c.requires c.first_points-points.ensures))
 
 pub loop-at-init : goal.loop-at-init
-loop-at-init t c = rw c.last_point-last.ensures (begun c.requires c.first_points-points.ensures)
+loop-at-init t c = rw (c.max-last.ensures, max-star) (begun c.requires c.first_points-points.ensures)
 
 pub slice_bounds-valid_tree-end : goal.slice_bounds-valid_tree-end
 slice_bounds-valid_tree-end t c =

@@ -1,35 +1,46 @@
-use mathlib.Core.List.{[], ◌∷◌}
-use mathlib.Core.Path.{◌≡◌, sym, ap, ◌∙◌}
-use Prim.Native.Nat.{◌+◌}
-use native.Mathlib.Omega.{arith}
-use lib.ListN.{length, length-append, length-replicate}
-use Rattle.patterns.specs.Tree.{point}
-use Rattle.component_theory.proofs.Generation.{length-points}
-use Rattle.trees.proofs.Walks.{along-next, along-step, along-end}
-use Rattle.trees.proofs.FirstPoints.{along-points}
+use Rattle.std.proofs.lemmas.Iterator.Consumers.{count_from_yields_List, YieldsList-from_first}
+use Rattle.std.proofs.Common.{◌≡◌, refl, inl, length, ap, arith, drop}
+use Rattle.trees.specs.Codes.{codes}
+use Rattle.trees.proofs.FirstPoints.{leading-within, behind-points, count-behind, count-within}
 use Rattle.trees.proofs.count.Goals as goal
 
-pub loop-at-init : goal.loop-at-init
-loop-at-init c =
-    let k = c.leading-at.result in
+pub slice_bounds-new-count : goal.slice_bounds-new-count
+slice_bounds-new-count c =
     let h = c.requires in
-    along-points h (c.leading-at.ensures h.trees h.is) (λ a r. length a ≡ k) (length-replicate k point)
+    leading-within c.args.s.now h.trees c.leading-points.result h.is (c.leading-points.ensures h.trees h.is)
 
-pub loop-at-smaller : goal.loop-at-smaller
-loop-at-smaller c =
-    let n = along-next c.loop-at.invariant (omega arith) in
+pub slice_bounds-new-start : goal.slice_bounds-new-start
+slice_bounds-new-start c =
+    let h = c.requires in
+    leading-within c.args.s.now h.trees c.leading-points.result h.is (c.leading-points.ensures h.trees h.is)
+
+pub new-requires : goal.new-requires
+new-requires c =
+    let h = c.requires in
+    let k = c.leading-points.result in
+    record { trees = drop k h.trees; is = behind-points c.args.s.now h.trees k h.is (c.leading-points.ensures h.trees h.is) }
+
+pub count-requires-clause-fits : goal.count-requires-clause-fits
+count-requires-clause-fits c =
+    let h = c.requires in
+    let q = count-behind c.args.s.now h.trees c.leading-points.result h.is (c.leading-points.ensures h.trees h.is) in
+    let n = count-within c.args.s.now h.trees c.leading-points.result h.is (c.leading-points.ensures h.trees h.is) in
+    let e = ap (λ x. length (codes x)) c.new.ensures in
+    inl (omega arith)
+
+pub overflow_add-result : goal.overflow_add-result
+overflow_add-result c =
+    let h = c.requires in
+    let q = count-behind c.args.s.now h.trees c.leading-points.result h.is (c.leading-points.ensures h.trees h.is) in
+    let n = count-within c.args.s.now h.trees c.leading-points.result h.is (c.leading-points.ensures h.trees h.is) in
+    let r : c.count.result ≡ length (codes c.new.result.rest.now) = count_from_yields_List c.new.result c.count.result c.count.ensures.ran (YieldsList-from_first (λ x. x.now) (λ s. codes s.rest.now) (codes c.new.result.rest.now) refl) in
+    let e = ap (λ x. length (codes x)) c.new.ensures in
     omega arith
 
-pub loop-at-preserved : goal.loop-at-preserved
-loop-at-preserved c =
-    let w = c.loop-at.invariant in
-    along-step w (along-next w (omega arith)) (λ a r. length a ≡ c.loop-at.n + 1)
-    (length-append w.ahead ((along-next w (omega arith)).tree ∷ []) ∙ ap (λ k. k + 1) w.kept)
-
 pub returns : goal.returns
-returns c = λ d e. sym (along-end c.loop-at.invariant (omega arith) d e)
-
-pub overflow_add-n : goal.overflow_add-n
-overflow_add-n c =
-    let w = c.loop-at.invariant in
-    omega (arith, length-points w.ahead)
+returns c =
+    λ d e.
+    let r : c.count.result ≡ length (codes c.new.result.rest.now) = count_from_yields_List c.new.result c.count.result c.count.ensures.ran (YieldsList-from_first (λ x. x.now) (λ s. codes s.rest.now) (codes c.new.result.rest.now) refl) in
+    let q = count-behind c.args.s.now d c.leading-points.result e (c.leading-points.ensures d e) in
+    let f = ap (λ x. length (codes x)) c.new.ensures in
+    omega arith

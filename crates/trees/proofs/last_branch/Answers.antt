@@ -6,7 +6,7 @@ use Rattle.trees.specs.Beginnings.{leading_points, last_start, star}
 use Rattle.patterns.specs.Tree.{Tree, code, branches}
 use Rattle.memory.specs.Memory.{HeldTree}
 use Rattle.trees.proofs.Walks.{Inside, inside-length, inside-next, inside-step, inside-end}
-use Rattle.trees.proofs.FirstPoints.{inside-points}
+use Rattle.trees.proofs.FirstPoints.{inside-points, max-star}
 use Rattle.trees.proofs.last_branch.Goals as goal
 
 -- behind the branches that are points
@@ -14,7 +14,7 @@ begun : {s : List ℕ} {k : ℕ} → HeldTree s → ((t : Tree) → s ≡ code t
 begun h e = inside-points h (e h.tree h.is) (λ t. Unit {0}) tt
 
 pub loop-at-init : goal.loop-at-init
-loop-at-init c = rw c.last_point-last.ensures (begun c.requires c.first_points-points.ensures)
+loop-at-init c = rw (c.max-last.ensures, max-star) (begun c.requires c.first_points-points.ensures)
 
 pub loop-at-smaller : goal.loop-at-smaller
 loop-at-smaller c =

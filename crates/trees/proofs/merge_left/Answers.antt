@@ -3,7 +3,6 @@ use Prim.Native.Nat.{◌+◌}
 use native.Mathlib.Omega.{arith}
 use lib.ListN.{get_or, set}
 use Rattle.trees.proofs.Merging.{reach, merged-left}
-use Rattle.lists.proofs.Filled.{copied}
 use Rattle.trees.proofs.merge_left.Goals as goal
 
 pub returns : goal.returns
@@ -11,7 +10,7 @@ returns c =
     let s = c.args.s.now in
     let i = c.args.i in
     λ t u d e.
-    ap (λ l. set l i (get_or s i 0 + get_or s (i + get_or s i 0) 0)) (c.copy.ensures.output ∙ copied s c.args.out.now c.requires.room)
+    ap (λ l. set l i (get_or s i 0 + get_or s (i + get_or s i 0) 0)) c.copy_from_slice.ensures.after
     ∙ merged-left s i t u d e
 
 pub bounds-s-i : goal.bounds-s-i

@@ -4,7 +4,6 @@ use native.Mathlib.Omega.{arith}
 use lib.ListN.{get_or, set}
 use Rattle.lists.specs.Blocks.{exchanged}
 use Rattle.trees.proofs.Merging.{reach, merged-right}
-use Rattle.lists.proofs.Filled.{copied}
 use Rattle.trees.proofs.merge_right.Goals as goal
 
 pub exchange-requires : goal.exchange-requires
@@ -17,7 +16,7 @@ returns c =
     let j = i + get_or s i 0 in
     λ t u d e.
     ap (λ l. set l i (get_or s j 0 + get_or s i 0))
-    (c.exchange.ensures ∙ ap (exchanged i j (j + get_or s j 0)) (c.copy.ensures.output ∙ copied s c.args.out.now c.requires.room))
+    (c.exchange.ensures ∙ ap (exchanged i j (j + get_or s j 0)) c.copy_from_slice.ensures.after)
     ∙ merged-right s i t u d e
 
 pub bounds-s-i : goal.bounds-s-i

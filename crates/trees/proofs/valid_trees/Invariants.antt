@@ -1,10 +1,10 @@
-use Prim.Native.Nat.{◌-◌}
-use lib.ListN.{length}
-use Rattle.trees.proofs.Walks.{Along, ValidBefore}
+use Rattle.std.proofs.Common.{◌≡◌, map}
+use Rattle.lists.specs.Select.{each}
+use Rattle.patterns.specs.Tree.{code, valid_tree}
+use Rattle.patterns.specs.Component.{Component, flat}
+use Rattle.trees.specs.Codes.{codes}
 use Rattle.trees.proofs.valid_trees.Given as goal
 
-abbrev pub invariant-loop-at : goal.invariant-loop-at
-invariant-loop-at l = Along l.s l.at ValidBefore
-
-abbrev pub decreases-loop-at : goal.decreases-loop-at
-decreases-loop-at l = length l.s - l.at
+abbrev pub invariant-loop-tree : goal.invariant-loop-tree
+invariant-loop-tree l =
+    (c : Component) → l.s ≡ flat c → (d : Component) × (codes l.tree-iterator.rest.now ≡ map code d) × (each valid_tree c ≡ each valid_tree d)

@@ -14,12 +14,12 @@ pub returns-then-not-in_format : goal.returns-then-not-in_format
 returns-then-not-in_format c =
     sized-form c.args.s.now c.args.j c.args.k (omega arith) (sym c.in_format.ensures ∙ c.if-not-in_format.true)
 
-pub value-requires : goal.value-requires
-value-requires c =
+pub value-points-requires : goal.value-points-requires
+value-points-requires c =
     let digits-pass : let a = c.args in each in_format (digits_of a.j a.k a.s.now) ≡ true = sym c.in_format.ensures ∙ c.if-not-in_format.false in
     (digits-pass, omega (arith, digits-length c.args.s.now c.args.j c.args.k (omega arith), c.requires.2))
 
 pub returns : goal.returns
 returns c =
     let digits-pass : let a = c.args in each in_format (digits_of a.j a.k a.s.now) ≡ true = sym c.in_format.ensures ∙ c.if-not-in_format.false in
-    sized-read c.args.s.now c.args.j c.args.k (omega arith) digits-pass c.value.ensures
+    sized-read c.args.s.now c.args.j c.args.k (omega arith) digits-pass c.value-points.ensures

@@ -6,9 +6,9 @@ use Rattle.lower_sizes.proofs.fill.last_component.Goals as goal
 pub returns-then-size-ge2 : goal.returns-then-size-ge2
 returns-then-size-ge2 c =
     let points : ℕ = length c.args.out.now in
-    last-long points _ c.set_all.ensures c.if-size-ge2.true
+    last-long points _ (c.fill.ensures.after (λ y f. f)) c.if-size-ge2.true
 
 pub returns-else-size-ge2 : goal.returns-else-size-ge2
 returns-else-size-ge2 c =
     let points : ℕ = length c.args.out.now in
-    last-short points _ c.set_all.ensures c.if-size-ge2.false
+    last-short points _ (c.fill.ensures.after (λ y f. f)) c.if-size-ge2.false

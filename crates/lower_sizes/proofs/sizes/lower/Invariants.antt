@@ -4,6 +4,3 @@ use Rattle.lower_sizes.proofs.sizes.lower.Given as goal
 
 abbrev pub invariant-loop-i : goal.invariant-loop-i
 invariant-loop-i l = Lowering l.initial.sizes (l.from + 1) l.sizes l.i l.rest
-
-abbrev pub decreases-loop-i : goal.decreases-loop-i
-decreases-loop-i l = l.i

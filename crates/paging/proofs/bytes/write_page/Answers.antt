@@ -1,61 +1,53 @@
-use mathlib.Core.Path.{refl, ◌∙◌}
+use mathlib.Core.Path.{refl}
 use native.Mathlib.Omega.{arith}
-use lib.ListN.{length-take}
-use Rattle.paging.proofs.Paged.{paged-next, paged-all, paged-last, writing_start, writing-same, writing-put, writing-room, writing-next}
+use lib.ListN.{length-take, take}
+use Rattle.patterns.specs.System.{System}
+use Rattle.memory.specs.Memory.{Holds}
+use Rattle.paging.proofs.Paged.{Advanced, next_written, paged-next, paged-all, paged-last, writing_start, writing-put, writing-room, writing-next}
 use Rattle.paging.proofs.bytes.write_page.Goals as goal
+use Rattle.paging.proofs.bytes.write_page.Goals.{In-Some}
+
+-- one code more, after the system that was in memory
+stepped : (c : In-Some) (S : System) (h : Holds S (take c.args.m c.args.sizes.now) c.args.trees.now)
+    → Advanced S c.args.wanted c.loop-i.i (c.loop-i.invariant S h).made c.follow.new.sizes c.in-Some.count c.follow.new.trees
+stepped c S h =
+    paged-next (c.loop-i.invariant S h).paged c.follow.result c.follow.new.sizes c.follow.new.trees c.follow.ensures c.in-Some.count c.in-Some.is c.follow.auto.sizes
+    (omega arith)
 
 pub loop-i-init : goal.loop-i-init
-loop-i-init c = (refl, refl, writing_start c.requires)
+loop-i-init c = writing_start c.requires
 
 -- the page so far, of the system that was in memory
 pub follow-requires : goal.follow-requires
-follow-requires c = (c.loop-i.invariant.2 c.requires.held.system c.requires.held.holds).paged.held
-
-pub shape_of-sizes-in_default : goal.shape_of-sizes-in_default
-shape_of-sizes-in_default c = c.follow.auto.sizes ∙ c.loop-i.invariant.0
-
-pub shape_of-trees-in_default : goal.shape_of-trees-in_default
-shape_of-trees-in_default c = c.follow.auto.trees ∙ c.loop-i.invariant.1
-
-pub shape_of-out-in_default : goal.shape_of-out-in_default
-shape_of-out-in_default c = writing-same (c.loop-i.invariant.2 c.requires.held.system c.requires.held.holds)
+follow-requires c = (c.loop-i.invariant c.requires.held.system c.requires.held.holds).paged.held
 
 pub returns-in_default : goal.returns-in_default
 returns-in_default c =
     λ S h.
-    let w = c.loop-i.invariant.2 S h in
-    writing-put w (paged-last w.paged c.follow.result c.follow.new.sizes c.follow.new.trees c.follow.ensures c.in_default.is)
+    let w = c.loop-i.invariant S h in
+    writing-put w refl (paged-last w.paged c.follow.result c.follow.new.sizes c.follow.new.trees c.follow.ensures c.in_default.is)
 
--- one code more, after the system that was in memory
-pub slice_bounds-write_system-end : goal.slice_bounds-write_system-end
-slice_bounds-write_system-end c = (paged-next (c.loop-i.invariant.2 c.requires.held.system c.requires.held.holds).paged c.follow.result c.follow.new.sizes c.follow.new.trees c.follow.ensures c.in-To.count c.in-To.is c.follow.auto.sizes c.loop-i-test.true).held.within
+pub slice_bounds-sizes-end : goal.slice_bounds-sizes-end
+slice_bounds-sizes-end c = (stepped (goal.at.slice_bounds-sizes-end c).In-Some c.requires.held.system c.requires.held.holds).held.within
 
-pub slice_bounds-write_system-end-in-loop-i : goal.slice_bounds-write_system-end-in-loop-i
-slice_bounds-write_system-end-in-loop-i c =
-    let fits = (paged-next (c.loop-i.invariant.2 c.requires.held.system c.requires.held.holds).paged c.follow.result c.follow.new.sizes c.follow.new.trees c.follow.ensures c.in-To.count c.in-To.is c.follow.auto.sizes c.loop-i-test.true).held.within in
+pub slice_bounds-sizes-end-in-loop-i : goal.slice_bounds-sizes-end-in-loop-i
+slice_bounds-sizes-end-in-loop-i c =
+    let fits = (stepped (goal.at.slice_bounds-sizes-end-in-loop-i c).In-Some c.requires.held.system c.requires.held.holds).held.within in
     rw length-take (omega arith)
 
-pub write_system-at-requires : goal.write_system-at-requires
-write_system-at-requires c =
-    writing-room (c.loop-i.invariant.2 c.requires.held.system c.requires.held.holds) (paged-next (c.loop-i.invariant.2 c.requires.held.system c.requires.held.holds).paged c.follow.result c.follow.new.sizes c.follow.new.trees c.follow.ensures c.in-To.count c.in-To.is c.follow.auto.sizes c.loop-i-test.true)
+pub invariant_of-write : goal.invariant_of-write
+invariant_of-write c = record { held = next_written (stepped (goal.at.invariant_of-write c).In-Some c.requires.held.system c.requires.held.holds).held }
+
+pub write-at-requires : goal.write-at-requires
+write-at-requires c =
+    writing-room (c.loop-i.invariant c.requires.held.system c.requires.held.holds)
+    (stepped (goal.at.write-at-requires c).In-Some c.requires.held.system c.requires.held.holds)
 
 pub loop-i-preserved : goal.loop-i-preserved
-loop-i-preserved c = (
-  c.follow.auto.sizes ∙ c.loop-i.invariant.0,
-  c.follow.auto.trees ∙ c.loop-i.invariant.1,
-  λ S h.
-      let a = paged-next (c.loop-i.invariant.2 S h).paged c.follow.result c.follow.new.sizes c.follow.new.trees c.follow.ensures c.in-To.count c.in-To.is c.follow.auto.sizes c.loop-i-test.true in
-      writing-next (c.loop-i.invariant.2 S h) a (c.write_system-at.ensures a.held.system a.held.holds),
-)
-
-pub shape_of-sizes : goal.shape_of-sizes
-shape_of-sizes c = c.loop-i.invariant.0
-
-pub shape_of-trees : goal.shape_of-trees
-shape_of-trees c = c.loop-i.invariant.1
-
-pub shape_of-out : goal.shape_of-out
-shape_of-out c = writing-same (c.loop-i.invariant.2 c.requires.held.system c.requires.held.holds)
+loop-i-preserved c =
+    λ S h.
+    let a = stepped (goal.at.loop-i-preserved c).In-Some S h in
+    writing-next (c.loop-i.invariant S h) a (c.write-at.ensures a.held.system a.held.holds)
 
 pub returns : goal.returns
-returns c = λ S h. let w = c.loop-i.invariant.2 S h in writing-put w (paged-all w.paged (omega arith))
+returns c = λ S h. let w = c.loop-i.invariant S h in writing-put w (omega (arith, w.paged.within)) (paged-all w.paged (omega arith))

@@ -1,4 +1,3 @@
-use mathlib.Core.Path.{◌∙◌}
 use Prim.Native.Nat.{◌-◌}
 use native.Mathlib.Omega.{arith}
 use Rattle.scanning.proofs.Scanning.{scan-start, pair-at, scan-on, scan-found}
@@ -8,25 +7,16 @@ use Rattle.scanning.proofs.down.scan_left_down.Goals as goal
 pub loop-i-init : goal.loop-i-init
 loop-i-init c = (scan-start, omega arith)
 
-pub overflow_sub-i : goal.overflow_sub-i
-overflow_sub-i c = omega arith
-
 pub left_child-requires : goal.left_child-requires
 left_child-requires c =
     let p = c.requires in
     let inv = c.loop-i.invariant in
     pair-at p.0 (c.loop-i.i - 1) _ inv.0.room (omega (arith, p.1, inv.1)) (omega (arith, p.2, inv.1))
 
-pub shape_of-out-then-left_child : goal.shape_of-out-then-left_child
-shape_of-out-then-left_child c = c.left_child.auto.out ∙ c.loop-i.invariant.0.room
-
 pub returns-then-left_child : goal.returns-then-left_child
 returns-then-left_child c =
     let i = c.loop-i.i in
     scan-found c.loop-i.invariant.0 (i - 1) (i - 1) _ (λ d e. left_down d i (omega arith)) c.left_child.result c.left_child.ensures c.if-left_child.true
-
-pub loop-i-smaller : goal.loop-i-smaller
-loop-i-smaller c = omega arith
 
 pub loop-i-preserved : goal.loop-i-preserved
 loop-i-preserved c =
@@ -35,9 +25,6 @@ loop-i-preserved c =
           c.left_child.auto.out,
       omega (arith, c.loop-i.invariant.1),
     )
-
-pub shape_of-out : goal.shape_of-out
-shape_of-out c = c.loop-i.invariant.0.room
 
 pub returns : goal.returns
 returns c = λ d e. left-none _ d e (omega arith) c.loop-i.invariant.0

@@ -5,6 +5,3 @@ use Rattle.scanning.proofs.down.scan_left_down.Given as goal
 
 abbrev pub invariant-loop-i : goal.invariant-loop-i
 invariant-loop-i l = Scanned child_before l.s l.to l.i l.initial.out l.out × (l.i ≤ l.to)
-
-abbrev pub decreases-loop-i : goal.decreases-loop-i
-decreases-loop-i l = l.i

@@ -1,4 +1,3 @@
-use mathlib.Core.Path.{◌∙◌}
 use Prim.Native.Nat.{◌+◌, ◌-◌}
 use native.Mathlib.Omega.{arith}
 use Rattle.scanning.proofs.Scanning.{scan-start, candidates-count, pair-at, scan-on, scan-found, passed-one}
@@ -8,17 +7,11 @@ use Rattle.scanning.proofs.down.scan_right_down.Goals as goal
 pub loop-i-init : goal.loop-i-init
 loop-i-init c = (scan-start, omega arith)
 
-pub overflow_sub-i : goal.overflow_sub-i
-overflow_sub-i c = omega arith
-
 pub right_child-requires : goal.right_child-requires
 right_child-requires c =
     let p = c.requires in
     let inv = c.loop-i.invariant in
     pair-at p.0 (c.loop-i.i - 1) _ inv.0.room (omega (arith, p.1, inv.1)) (omega (arith, p.2, inv.1))
-
-pub shape_of-out-then-right_child : goal.shape_of-out-then-right_child
-shape_of-out-then-right_child c = c.right_child.auto.out ∙ c.loop-i.invariant.0.room
 
 pub returns-then-right_child : goal.returns-then-right_child
 returns-then-right_child c =
@@ -29,9 +22,6 @@ returns-then-right_child c =
     (scan-found c.loop-i.invariant.0 (n + (i - 1)) (n + (i - 1)) _ (λ d e. right-down d n i (omega arith)) c.right_child.result
     (λ d e. c.right_child.ensures d n e (candidates-count c.requires.0 d e)) c.if-right_child.true d e)
 
-pub loop-i-smaller : goal.loop-i-smaller
-loop-i-smaller c = omega arith
-
 pub loop-i-preserved : goal.loop-i-preserved
 loop-i-preserved c =
     let i = c.loop-i.i in
@@ -40,9 +30,6 @@ loop-i-preserved c =
           (λ d e. c.right_child.ensures d n e (candidates-count c.requires.0 d e)) c.if-right_child.false c.right_child.auto.out,
       omega (arith, c.loop-i.invariant.1),
     )
-
-pub shape_of-out : goal.shape_of-out
-shape_of-out c = c.loop-i.invariant.0.room
 
 pub returns : goal.returns
 returns c = λ d e. right-none _ d e (omega arith) c.args.pairs c.loop-i.invariant.0

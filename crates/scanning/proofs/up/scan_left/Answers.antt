@@ -1,4 +1,3 @@
-use mathlib.Core.Path.{◌∙◌}
 use Prim.Native.Nat.{◌+◌}
 use native.Mathlib.Omega.{arith}
 use Rattle.scanning.proofs.Scanning.{scan-start, pair-at, scan-on, scan-found, passed-one}
@@ -8,9 +7,6 @@ use Rattle.scanning.proofs.up.scan_left.Goals as goal
 pub loop-i-init : goal.loop-i-init
 loop-i-init c = (scan-start, c.requires.1)
 
-pub shape_of-out-then-lead-i : goal.shape_of-out-then-lead-i
-shape_of-out-then-lead-i c = c.loop-i.invariant.0.room
-
 pub returns-then-lead-i : goal.returns-then-lead-i
 returns-then-lead-i c =
     λ d e. left-late c.requires.0 c.loop-i.invariant.0 _ d e c.if-lead-i.true c.loop-i-test.true
@@ -18,10 +14,6 @@ returns-then-lead-i c =
 pub left_child-requires : goal.left_child-requires
 left_child-requires c =
     pair-at c.requires.0 c.loop-i.i _ c.loop-i.invariant.0.room (omega arith) (omega arith)
-
-pub shape_of-out-then-left_child : goal.shape_of-out-then-left_child
-shape_of-out-then-left_child c =
-    c.left_child.auto.out ∙ c.loop-i.invariant.0.room
 
 pub returns-then-left_child : goal.returns-then-left_child
 returns-then-left_child c =
@@ -31,12 +23,6 @@ returns-then-left_child c =
     (scan-found c.loop-i.invariant.0 i (i + 1) _ (left_up c.requires.0 i (omega arith)) c.left_child.result c.left_child.ensures
     c.if-left_child.true d e)
 
-pub overflow_add-i : goal.overflow_add-i
-overflow_add-i c = omega arith
-
-pub loop-i-smaller : goal.loop-i-smaller
-loop-i-smaller c = omega arith
-
 pub loop-i-preserved : goal.loop-i-preserved
 loop-i-preserved c =
     let i = c.loop-i.i in (
@@ -44,9 +30,6 @@ loop-i-preserved c =
           c.if-left_child.false c.left_child.auto.out,
       omega arith,
     )
-
-pub shape_of-out : goal.shape_of-out
-shape_of-out c = c.loop-i.invariant.0.room
 
 pub returns : goal.returns
 returns c = λ d e. left_end c.requires.0 c.loop-i.invariant.0 _ d e (omega arith)

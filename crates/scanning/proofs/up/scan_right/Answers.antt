@@ -1,4 +1,3 @@
-use mathlib.Core.Path.{◌∙◌}
 use Prim.Native.Nat.{◌+◌}
 use native.Mathlib.Omega.{arith}
 use Rattle.scanning.proofs.Scanning.{scan-start, candidates-count, pair-at, scan-on, scan-found}
@@ -8,9 +7,6 @@ use Rattle.scanning.proofs.up.scan_right.Goals as goal
 pub loop-i-init : goal.loop-i-init
 loop-i-init c = scan-start
 
-pub shape_of-out-then-lead-i : goal.shape_of-out-then-lead-i
-shape_of-out-then-lead-i c = c.loop-i.invariant.room
-
 pub returns-then-lead-i : goal.returns-then-lead-i
 returns-then-lead-i c =
     λ d e. right-late c.requires c.loop-i.invariant _ d e c.if-lead-i.true c.loop-i-test.true
@@ -18,10 +14,6 @@ returns-then-lead-i c =
 pub right_child-requires : goal.right_child-requires
 right_child-requires c =
     pair-at c.requires c.loop-i.i _ c.loop-i.invariant.room (omega arith) (omega arith)
-
-pub shape_of-out-then-right_child : goal.shape_of-out-then-right_child
-shape_of-out-then-right_child c =
-    c.right_child.auto.out ∙ c.loop-i.invariant.room
 
 pub returns-then-right_child : goal.returns-then-right_child
 returns-then-right_child c =
@@ -31,12 +23,6 @@ returns-then-right_child c =
     scan-found c.loop-i.invariant (n + i) (n + (i + 1)) _ (right-up p i (omega arith)) c.right_child.result
     (λ d e. c.right_child.ensures d n e (candidates-count p d e)) c.if-right_child.true
 
-pub overflow_add-i : goal.overflow_add-i
-overflow_add-i c = omega arith
-
-pub loop-i-smaller : goal.loop-i-smaller
-loop-i-smaller c = omega arith
-
 pub loop-i-preserved : goal.loop-i-preserved
 loop-i-preserved c =
     let p = c.requires in
@@ -44,9 +30,6 @@ loop-i-preserved c =
     let n = c.args.pairs in
     scan-on c.loop-i.invariant (n + i) (n + (i + 1)) _ (right-up p i (omega arith)) c.right_child.result
     (λ d e. c.right_child.ensures d n e (candidates-count p d e)) c.if-right_child.false c.right_child.auto.out
-
-pub shape_of-out : goal.shape_of-out
-shape_of-out c = c.loop-i.invariant.room
 
 pub returns : goal.returns
 returns c = λ d e. right_end c.requires c.loop-i.invariant _ d e c.loop-i-test.false

@@ -1,0 +1,2 @@
+-- What the law of this crate is about.
+pub mod Reversals

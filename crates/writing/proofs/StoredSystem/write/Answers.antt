@@ -1,0 +1,16 @@
+use Rattle.writing.proofs.Placements.{points-fit, count_fits, components-fit, system-written}
+use Rattle.writing.proofs.StoredSystem.write.Goals as goal
+
+pub put_number-front-requires : goal.put_number-front-requires
+put_number-front-requires c = points-fit c.requires
+
+pub put_number-next-requires : goal.put_number-next-requires
+put_number-next-requires c = count_fits c.requires c.put_number-front.ensures
+
+pub write_components-requires : goal.write_components-requires
+write_components-requires c =
+    components-fit c.requires c.put_number-front.ensures c.put_number-next.ensures
+
+pub returns : goal.returns
+returns c =
+    system-written c.requires c.put_number-front.ensures c.put_number-next.ensures _ _ c.write_components.ensures
