@@ -1,13 +1,13 @@
 -- Cutting bytes into numbers in one pass: what a step tells, how great a number can be, what is known after each byte, and what that says at the end.
-use Rattle.std.specs.Prelude.{Option, Some, None, is_some, Ok, Err}
+use Rattle.std.specs.Prelude.{Ok, Err}
 use mathlib.Core.Path.{◌≡◌, refl, ap, sym, ◌∙◌, subst}
-use mathlib.Core.Bool.{true, false, ◌||◌}
+use mathlib.Core.Bool.{◌||◌}
 use mathlib.Core.List.{List, [], ◌∷◌, ◌++◌, append-nil}
 use Prim.Native.Nat.{ℕ, zero, suc, ◌+◌, ◌-◌, ◌≤◌, ◌<◌}
 use native.Mathlib.Omega.{arith}
 use lib.Dec.{ltb, leb, eqb}
 use lib.ListN.{length, take, drop, get_or, set, length-append, length-set, length-take, drop_of_length-le}
-use lib.Seq.{drop-cons, take_all, take-append-le, set_at, set_out, append_snoc}
+use lib.Seq.{drop-cons, take_all, take-append-le, take-nil, set_at, set_out, append_snoc}
 use borrow.Author.Tests.{ltb-true, ltb-false, leb-false}
 use Rattle.lists.proofs.Tests.{by-test, clash}
 use Rattle.patterns.specs.declared.Refusal.{Refusal}
@@ -16,8 +16,9 @@ use Rattle.patterns.specs.Reading.{Result, done, fault, cut}
 use Rattle.patterns.specs.OnePass.{Known, whole, begun, broken, cut_step, going, scanned, scan_step, scan, scan_end}
 use Rattle.form_theory.proofs.Results.{or-false}
 use Rattle.form_theory.proofs.OnePass.{scan-next, prefix-fault, prefix-end}
+use Rattle.cutting.specs.declared.Cut.{Cut}
 use Rattle.cutting.specs.declared.Piece.TheVariants.{Whole, Begun}
-use Rattle.cutting.specs.Cutting.{IsFirstByte, place_of, beginning_of, step_reply, cut_reply, stored, CutInto}
+use Rattle.cutting.specs.Cutting.{step_reply, cut_reply, stored, CutInto}
 
 -- What the reply of a step tells.
 
@@ -45,12 +46,12 @@ Small p (whole n) = n < 16384
 Small p (begun v) = (v < 128) × (p ≡ 0)
 Small p (broken c) = Unit {0}
 
-small : (x : ℕ) (first : Option ℕ) → x < 256 → IsFirstByte first → Small (place_of first) (cut_step x (place_of first) (beginning_of first))
-small x None h k = by-test (ltb x 128) (λ t. rw t (omega (arith, ltb-true x 128 t))) (λ t. rw t (omega arith, refl))
-small x (Some y) h k =
+small : (x p v : ℕ) → x < 256 → v < 128 → Small p (cut_step x p v)
+small x zero v h k = by-test (ltb x 128) (λ t. rw t (omega (arith, ltb-true x 128 t))) (λ t. rw t (omega arith, refl))
+small x (suc p) v h k =
     by-test (eqb x 0 || leb 128 x)
     (λ t. rw t tt)
-    (λ t. rw t (omega (arith, k.1, leb-false 128 x (or-false (eqb x 0) (leb 128 x) t).1)))
+    (λ t. rw t (omega (arith, leb-false 128 x (or-false (eqb x 0) (leb 128 x) t).1)))
 
 -- The output: as many numbers as fit, and one more.
 stored_more : (xs out : List ℕ) (n x : ℕ) → length xs ≡ n → set (stored xs out) n x ≡ stored (xs ++ (x ∷ [])) out
@@ -77,57 +78,52 @@ stored_more xs out n x e =
     )
     (set_out (take (length out) xs) n x (omega (arith, length-take (length out) xs))))
 
--- whether a number is open, by its place
-place-begun : (first : Option ℕ) → is_some first ≡ true → 0 < place_of first
-place-begun None e = clash cc
-place-begun (Some x) e = omega arith
-
-place-whole : (first : Option ℕ) → is_some first ≡ false → place_of first ≡ 0
-place-whole None e = refl
-place-whole (Some x) e = clash cc
-
--- The bytes before `at` have been read: n numbers have ended, and one has begun where a first byte is kept.
-pub record Cutting (s before out : List ℕ) (at n : ℕ) (first : Option ℕ) : Type 0 where
+-- The bytes before `at` have been read: n numbers have ended, and the next byte has this place in its number, which began with the byte `first`.
+pub record Cutting (s before out : List ℕ) (at n place first : ℕ) : Type 0 where
   pub within : at ≤ length s
   pub fewer : n ≤ at
   pub same : length out ≡ length before
-  pub low : IsFirstByte first
+  pub low : (first < 256) × (0 < place → 128 ≤ first)
   pub had : List ℕ
   pub count : length had ≡ n
-  pub known : scan (take at s) ≡ going had (place_of first) (beginning_of first)
+  pub known : scan (take at s) ≡ going had place (first - 128)
   pub kept : out ≡ stored had before
 
-module _ {s before out : List ℕ} {at n : ℕ} {first : Option ℕ} (w : Cutting s before out at n first) where
-  module _ (h : at < length s) where
-    abbrev step : Known
-    step = cut_step (get_or s at 0) (place_of first) (beginning_of first)
+pub cutting-start : (s before : List ℕ) → Cutting s before before 0 0 0 0
+cutting-start s before =
+    record { within = omega arith; fewer = omega arith; same = refl; low = (omega arith, λ q. omega arith); had = []; count = refl; known = refl; kept = rw take-nil }
 
+module _ {s before out : List ℕ} {at n place first : ℕ} (w : Cutting s before out at n place first) where
+  module _ (h : at < length s) where
     -- what is known after one byte more
-    further : (k : Known) → step ≡ k → scan (take (at + 1) s) ≡ scanned w.had (place_of first) k
-    further k e = scan-next s at h ∙ ap (scan_step (get_or s at 0)) w.known ∙ ap (scanned w.had (place_of first)) e
+    further : (k : Known) → cut_step (get_or s at 0) place (first - 128) ≡ k → scan (take (at + 1) s) ≡ scanned w.had place k
+    further k e = scan-next s at h ∙ ap (scan_step (get_or s at 0)) w.known ∙ ap (scanned w.had place) e
 
     -- a refusal decides over all
-    pub cutting-refused : (c : Refusal) → Err c ≡ step_reply step → CutInto s before (Err c) out
+    pub cutting-refused : (c : Refusal) → Err c ≡ step_reply (cut_step (get_or s at 0) place (first - 128)) → CutInto s before (Err c) out
     cutting-refused c e =
-        let f : cut s ≡ fault c = prefix-fault s (at + 1) c (further (broken c) (broken-told step c e)) in
+        let f : cut s ≡ fault c = prefix-fault s (at + 1) c (further (broken c) (broken-told (cut_step (get_or s at 0) place (first - 128)) c e)) in
         record { same = w.same; reply = rw f; output = λ xs g. clash cc }
 
     module _ (value : ℕ) (byte : get_or s at 0 < 256) where
-      bounded : Small (place_of first) step
-      bounded = small (get_or s at 0) first byte w.low
+      bounded : Small place (cut_step (get_or s at 0) place (first - 128))
+      bounded = small (get_or s at 0) place (first - 128) byte (omega (arith, w.low.0))
 
       -- a number has ended: it is below 16,384, and one more is kept and counted
-      module _ (e : Ok (Whole value) ≡ step_reply step) where
-        ended : step ≡ whole value
-        ended = whole-told step value e
+      module _ (e : Ok (Whole value) ≡ step_reply (cut_step (get_or s at 0) place (first - 128))) where
+        ended : cut_step (get_or s at 0) place (first - 128) ≡ whole value
+        ended = whole-told (cut_step (get_or s at 0) place (first - 128)) value e
 
-        pub cutting-ended : Cutting s before (set out n value) (at + 1) (n + 1) None
+        pub ended-small : value < 16384
+        ended-small = subst (Small place) ended bounded
+
+        pub cutting-ended : Cutting s before (set out n value) (at + 1) (n + 1) 0 0
         cutting-ended =
             record {
               within = omega arith;
               fewer = omega (arith, w.fewer);
               same = simp length-set w.same;
-              low = tt;
+              low = (omega arith, λ q. omega arith);
               had = w.had ++ (value ∷ []);
               count = omega (arith, length-append w.had (value ∷ []), w.count);
               known = further (whole value) ended;
@@ -135,15 +131,15 @@ module _ {s before out : List ℕ} {at n : ℕ} {first : Option ℕ} (w : Cuttin
             }
 
       -- a number goes on
-      pub cutting-open : Ok (Begun value) ≡ step_reply step → Cutting s before out (at + 1) n (Some value)
+      pub cutting-open : Ok (Begun value) ≡ step_reply (cut_step (get_or s at 0) place (first - 128)) → Cutting s before out (at + 1) n 1 value
       cutting-open e =
-          let told = begun-told step value e in
-          let b = subst (Small (place_of first)) told.0 bounded in
+          let told = begun-told (cut_step (get_or s at 0) place (first - 128)) value e in
+          let b = subst (Small place) told.0 bounded in
           record {
             within = omega arith;
             fewer = omega (arith, w.fewer);
             same = w.same;
-            low = (told.1, omega (arith, b.0, told.1));
+            low = (omega (arith, b.0, told.1), λ q. told.1);
             had = w.had;
             count = w.count;
             known = further (begun (value - 128)) told.0 ∙ ap (λ p. going w.had (suc p) (value - 128)) b.1;
@@ -151,39 +147,39 @@ module _ {s before out : List ℕ} {at n : ℕ} {first : Option ℕ} (w : Cuttin
           }
 
   -- No byte is left: a number is open ..
-  pub cutting-truncated : length s ≤ at → is_some first ≡ true → CutInto s before (Err Truncated) out
+  pub cutting-truncated : length s ≤ at → 0 < place → CutInto s before (Err Truncated) out
   cutting-truncated h p =
-      let f : cut s ≡ fault Truncated = prefix-end s at h ∙ ap scan_end w.known ∙ open-end (place_of first) (place-begun first p) in
+      let f : cut s ≡ fault Truncated = prefix-end s at h ∙ ap scan_end w.known ∙ open-end place p in
       record { same = w.same; reply = rw f; output = λ xs g. clash cc }
     where
-      open-end : (p : ℕ) → 0 < p → scan_end (going w.had p (beginning_of first)) ≡ fault Truncated
+      open-end : (p : ℕ) → 0 < p → scan_end (going w.had p (first - 128)) ≡ fault Truncated
       open-end zero k = absurd (omega arith)
       open-end (suc p) k = refl
 
   -- .. or none is
-  pub cutting-end : length s ≤ at → is_some first ≡ false → CutInto s before (Ok n) out
+  pub cutting-end : length s ≤ at → place ≡ 0 → CutInto s before (Ok record { numbers = n; bytes = length s }) out
   cutting-end h p =
-      let f : cut s ≡ done w.had = prefix-end s at h ∙ ap scan_end (w.known ∙ ap (λ q. going w.had q (beginning_of first)) (place-whole first p)) in
+      let f : cut s ≡ done w.had = prefix-end s at h ∙ ap scan_end (w.known ∙ ap (λ q. going w.had q (first - 128)) p) in
       record {
         same = w.same;
         reply = rw (f, w.count);
         output = λ xs g. let q : w.had ≡ xs = cc in w.kept ∙ ap (λ l. stored l before) q;
       }
 
--- A slice that was cut into n numbers: these are they.
-pub numbers-cut : {s before after : List ℕ} {n : ℕ} → CutInto s before (Ok n) after
-    → (xs : List ℕ) × (cut s ≡ done xs) × (length xs ≡ n) × (after ≡ stored xs before)
-numbers-cut {s} {before} {after} {n} r = found (cut s) refl r.reply
+-- A slice that was cut: these are its numbers.
+pub numbers-cut : {s before after : List ℕ} {k : Cut} → CutInto s before (Ok k) after
+    → (xs : List ℕ) × (cut s ≡ done xs) × (length xs ≡ k.numbers) × (after ≡ stored xs before)
+numbers-cut {s} {before} {after} {k} r = found (cut s) refl r.reply
   where
-    found : (o : Result (List ℕ)) → cut s ≡ o → Ok n ≡ cut_reply o
-        → (xs : List ℕ) × (cut s ≡ done xs) × (length xs ≡ n) × (after ≡ stored xs before)
-    found (done xs) p q = (xs, p, cc, r.output xs p)
+    found : (o : Result (List ℕ)) → cut s ≡ o → Ok k ≡ cut_reply (length s) o
+        → (xs : List ℕ) × (cut s ≡ done xs) × (length xs ≡ k.numbers) × (after ≡ stored xs before)
+    found (done xs) p q = let e : k ≡ record { numbers = length xs; bytes = length s } = cc in (xs, p, sym (ap (λ c. c.numbers) e), r.output xs p)
     found (fault c) p q = clash cc
 
 -- A slice that was refused: its cut has that cause.
 pub refusal-cut : {s before after : List ℕ} {c : Refusal} → CutInto s before (Err c) after → cut s ≡ fault c
 refusal-cut {s} {before} {after} {c} r = found (cut s) refl r.reply
   where
-    found : (o : Result (List ℕ)) → cut s ≡ o → Err c ≡ cut_reply o → cut s ≡ fault c
+    found : (o : Result (List ℕ)) → cut s ≡ o → Err c ≡ cut_reply (length s) o → cut s ≡ fault c
     found (done xs) p q = clash cc
     found (fault d) p q = let k : c ≡ d = cc in p ∙ ap fault (sym k)

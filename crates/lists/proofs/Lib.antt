@@ -4,8 +4,10 @@ pub mod Comparison
 pub mod Lex
 pub mod Ordering
 pub mod Permute
+pub mod Shifting
 pub mod Sorting
 pub mod Blocks
+pub mod Compared
 pub mod Members
 pub mod Places
 pub mod Rising

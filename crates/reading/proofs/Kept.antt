@@ -11,6 +11,7 @@ use lib.Dec.{ltb}
 use borrow.Author.Tests.{ltb-true, ltb-false}
 use Rattle.patterns.specs.declared.Refusal.{Refusal}
 use Rattle.patterns.specs.Reading.{done, and_then, cut}
+use Rattle.cutting.specs.declared.Cut.{Cut}
 use Rattle.cutting.specs.Cutting.{stored, CutInto}
 use Rattle.cutting.proofs.Cutting.{numbers-cut, refusal-cut}
 use Rattle.reading.specs.declared.Accepted.{Accepted}
@@ -31,14 +32,14 @@ first-stored xs out k count h e =
     rw (m, drop_of_length-le out {i = length xs} (omega arith), append-nil, h) (take_all k (take k xs) (omega (arith, length-take k xs))))
 
 -- The bytes `code` were cut into the memory `after`.
-module _ {code before after : List ℕ} {r : Reply ℕ Refusal} (w : CutInto code before r after) where
+module _ {code before after : List ℕ} {r : Reply Cut Refusal} (w : CutInto code before r after) where
   pub uncut-refused : (c : Refusal) (sizes trees : List ℕ) → r ≡ Err c → AcceptedInto (code_shape code) (Err c) sizes trees
   unfolding code_shape
   uncut-refused c sizes trees e =
       refused-into (code_shape code) c sizes trees (ap (λ o. and_then o shape) (refusal-cut (subst (λ q. CutInto code before q after) e w)))
 
-  module _ (count : ℕ) (full : length before ≡ kept_numbers) (e : r ≡ Ok count) (a : Reply Accepted Refusal) (sizes trees : List ℕ) where
-    numbers_of : (xs : List ℕ) × (cut code ≡ done xs) × (length xs ≡ count) × (after ≡ stored xs before)
+  module _ (k : Cut) (full : length before ≡ kept_numbers) (e : r ≡ Ok k) (a : Reply Accepted Refusal) (sizes trees : List ℕ) where
+    numbers_of : (xs : List ℕ) × (cut code ≡ done xs) × (length xs ≡ k.numbers) × (after ≡ stored xs before)
     numbers_of = numbers-cut (subst (λ q. CutInto code before q after) e w)
 
     code_read : AcceptedInto (shape numbers_of.0) a sizes trees → AcceptedInto (code_shape code) a sizes trees
@@ -46,10 +47,10 @@ module _ {code before after : List ℕ} {r : Reply ℕ Refusal} (w : CutInto cod
     code_read f = subst (λ o. AcceptedInto o a sizes trees) (ap (λ o. and_then o shape) (sym numbers_of.1)) f
 
     -- all that the memory has, and perhaps more
-    pub first-read : ((xs : List ℕ) → take (min count kept_numbers) after ≡ take kept_numbers xs → count ≡ length xs → AcceptedInto (shape xs) a sizes trees)
+    pub first-read : ((xs : List ℕ) → take (min k.numbers kept_numbers) after ≡ take kept_numbers xs → k.numbers ≡ length xs → AcceptedInto (shape xs) a sizes trees)
         → AcceptedInto (code_shape code) a sizes trees
     first-read f =
         code_read
         (f numbers_of.0
-        (ap (take (min count kept_numbers)) numbers_of.3 ∙ first-stored numbers_of.0 before kept_numbers count full numbers_of.2)
+        (ap (take (min k.numbers kept_numbers)) numbers_of.3 ∙ first-stored numbers_of.0 before kept_numbers k.numbers full numbers_of.2)
         (sym numbers_of.2))

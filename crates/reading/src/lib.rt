@@ -58,6 +58,6 @@ pub fn read_code(code: &[u8], sizes: &mut [u8], trees: &mut [u8]) -> Result<Acce
     ensures { AcceptedInto (code_shape code.now) result sizes.new trees.new }
 {
     let mut first = [0u16; KEPT];
-    let count = cut_into(code, &mut first)?;
+    let count = cut_into(code, &mut first)?.numbers;
     read_system(&first[..count.min(KEPT)], count, sizes, trees)
 }

@@ -11,4 +11,4 @@ returns-in_err-count c =
 pub returns : goal.returns
 returns c =
     let call = c.read_system in
-    first-read c.cut_into.ensures c.in_ok-count.count refl c.in_ok-count.was call.result call.new.sizes call.new.trees (rw c.min.ensures at call.ensures)
+    first-read c.cut_into.ensures c.in_ok-count.field-0 refl c.in_ok-count.was call.result call.new.sizes call.new.trees (rw c.min.ensures at call.ensures)

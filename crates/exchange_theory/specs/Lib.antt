@@ -1,2 +1,0 @@
--- What the law of this crate is about.
-pub mod Reversals
