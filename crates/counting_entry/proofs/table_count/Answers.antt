@@ -20,8 +20,8 @@ slice_bounds-trees-end c = taken-points (code-taken c.args.code.now c.in_ok-acce
 
 pub tables_with-requires : goal.tables_with-requires
 tables_with-requires c =
-    let t = code-taken c.args.code.now c.in_ok-accepted.ensures _ refl in
-    record { system = t.system; holds = t.holds; canonical_is = t.canonical_is; small = t.small }
+    let held = code-taken c.args.code.now c.in_ok-accepted.ensures _ refl in
+    record { system = held.system; holds = held.holds; canonical_is = held.canonical_is; small = held.small }
 
 pub returns-in_err-accepted : goal.returns-in_err-accepted
 returns-in_err-accepted c =
