@@ -5,12 +5,14 @@ use mathlib.Core.List.{List}
 use Prim.Native.Nat.{ℕ, ◌*◌, ◌≤◌, ◌<◌, ◌^◌}
 use native.Mathlib.Omega.{arith}
 use lib.Dec.{leb}
-use lib.IntN.{ℤ}
+use lib.IntN.{ℤ, pos}
 use lib.ListN.{length}
 use mir.Syntax.{w64}
-use mir.Val.{to_z, of_z}
+use mir.Val.{SFits, to_z, of_z}
 use borrow.Author.Tests.{leb-true}
 use Rattle.lists.proofs.Tests.{by-test}
+use Rattle.std.specs.Prelude.{Option, Some, None, Result as Reply, Ok, Err}
+use Rattle.patterns.specs.declared.Refusal.{Refusal}
 use Rattle.patterns.specs.declared.Refusal.TheVariants.{Room}
 use Rattle.patterns.specs.System.{System, weight}
 use Rattle.patterns.specs.Reading.{Result, done, fault, accepted}
@@ -18,6 +20,7 @@ use Rattle.patterns.specs.Replies.{Answer, length_is}
 use Rattle.patterns.specs.Entry.{Outcome, gives, ends, begins, lacks, fails, answer, answered, Replied, accept_of, IsomorphismReplied}
 use Rattle.form_theory.proofs.WrittenBack.{accepted-canonical}
 use Rattle.patterns.specs.SignedReplies.{signed_of, Reported, IsomorphismReported}
+use Rattle.signed_replies.specs.FoundNumbers.{found_signed}
 pub use Rattle.signed_replies.proofs.Fitting.{Fits, read_back, refused-fits}
 
 pub small-fits : (n : ℕ) → n ≤ 200 → Fits (length_is n)
@@ -56,3 +59,10 @@ module _ {before after : List ℕ} {a : Answer} (room : length before * 1 < 2 ^ 
   pub isomorphism-reported : {f g : List ℕ} → IsomorphismReplied f g before a after → {z : ℤ} → z ≡ signed_of a
       → IsomorphismReported f g before (to_z w64 (of_z w64 z)) after
   isomorphism-reported p e = record { reply = a; number = read_back e (isomorphism-fits p); replied = p }
+
+-- a reply that may find nothing, whatever number stands for that
+pub found-fits : {none : ℤ} → SFits w64 none → (shown : Reply (Option ℕ) Refusal → Answer) → ((n : ℕ) → shown (Ok (Some n)) ≡ length_is n)
+    → (r : Reply (Option ℕ) Refusal) → Fits (shown r) → SFits w64 (found_signed none r)
+found-fits h shown e (Ok (Some n)) f = subst Fits (e n) f
+found-fits h shown e (Ok None) f = h
+found-fits h shown e (Err c) f = refused-fits c

@@ -10,11 +10,10 @@ use lib.Seq.{take-suc, take_all}
 use lib.Dec.{ltb, eqb}
 use borrow.Author.Tests.{lt-ltb, ltb-true, eqb-true, eqb-false}
 use Rattle.lists.specs.Select.{total}
-use Rattle.lists.proofs.Tests.{by-test, each-true, each_member}
+use Rattle.lists.proofs.Tests.{◌∈◌, by-test, each-true, each_member}
 use Rattle.lists.proofs.Members.{in_list, in_append_left}
-use Rattle.lists.proofs.Places.{in-index}
 use Rattle.period_theory.specs.Multiples.{lcm, lcm_from}
-use Rattle.period_theory.proofs.CommonMultiples.{Positive, Inside, lcm-positive, lcm-left, lcm-right, lcm-divides, lcms-positive, lcms-inside, lcms-snoc}
+use Rattle.period_theory.proofs.CommonMultiples.{Positive, Inside, lcm-positive, lcm-left, lcm-right, lcm-divides, lcms-positive, lcms-common, lcms-inside, lcms-snoc}
 use Rattle.period_theory.proofs.LandauBound.{lcm-below}
 use Rattle.multiples.specs.FittingMultiples.{LcmAsked, LcmsAsked}
 
@@ -72,7 +71,7 @@ few-asked s all h =
 positives : {s : List ℕ} → LcmsAsked s → Positive s
 positives a x m = ltb-true 0 x (each_member (ltb 0) a.positive m)
 
-front-inside : (k : ℕ) (s : List ℕ) → Inside (take k s) s
+pub front-inside : (k : ℕ) (s : List ℕ) → Inside (take k s) s
 front-inside k s x m = in_list (take-append-drop k s) (in_append_left (drop k s) m)
 
 module _ {s : List ℕ} {i m : ℕ} (g : Gathered s i m) where
@@ -80,13 +79,17 @@ module _ {s : List ℕ} {i m : ℕ} (g : Gathered s i m) where
   one_more : i < length s → lcm m (get_or s i 0) ≡ lcm_from 1 (take (i + 1) s)
   one_more h = rw (g.so_far, add-one i, take-suc s i 0 h) (sym (lcms-snoc 1 (take i s) (get_or s i 0)))
 
-  pub gathered-asked : LcmsAsked s → i < length s → LcmAsked m (get_or s i 0)
-  gathered-asked a h =
+  -- with any number of the list there is a least common multiple that fits
+  pub gathered-asked : LcmsAsked s → (y : ℕ) → y ∈ s → LcmAsked m y
+  gathered-asked a y e =
       let all = positives a in
+      let front = front-inside i s in
+      let some : 0 < m = rw g.so_far (lcms-positive (take i s) (λ x k. all x (front x k))) in
+      let of_all : m ∣ lcm_from 1 s = rw g.so_far (lcms-inside front all) in
       record {
-        first = rw g.so_far (lcms-positive (take i s) (λ x k. all x (front-inside i s x k)));
-        second = all (get_or s i 0) (in-index s i 0 h);
-        fits = rw (one_more h) (let d = le_of_dvd (lcms-positive s all) (lcms-inside (front-inside (i + 1) s) all) in omega (arith, a.fits));
+        first = some;
+        second = all y e;
+        fits = let d = le_of_dvd (lcms-positive s all) (lcm-divides m y some (all y e) (lcm_from 1 s) of_all (lcms-common s all y e)) in omega (arith, a.fits);
       }
 
   pub gathered_next : i < length s → {r : ℕ} → r ≡ lcm m (get_or s i 0) → Gathered s (i + 1) r

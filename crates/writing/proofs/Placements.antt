@@ -173,22 +173,24 @@ module _ {sizes trees before : List ℕ} {at : ℕ} (w : SystemRoom sizes trees 
   points-fit = (omega (arith, held-points w.held.holds, w.held.small), omega (arith, whole, w.room))
 
   module _ {front : ℕ} {mid : List ℕ} (p : Placed (write_number (length trees)) at before front mid) where
-    pub count_fits : (length sizes < 16384) × (front + length (write_number (length sizes)) ≤ length mid)
-    count_fits = (
-      omega (arith, held-count w.held.holds, components-points w.held.system w.held.each_nonempty, w.held.small),
-      omega (arith, placed_same points-fit.1 p, p.end, whole, w.room),
-    )
+    -- there is room for what follows, also where the second number stands before the end of the first
+    module _ {place : ℕ} (up_to : place ≤ front) where
+      pub count_fits : (length sizes < 16384) × (place + length (write_number (length sizes)) ≤ length mid)
+      count_fits = (
+        omega (arith, held-count w.held.holds, components-points w.held.system w.held.each_nonempty, w.held.small),
+        omega (arith, up_to, placed_same points-fit.1 p, p.end, whole, w.room),
+      )
+
+      pub components-fit : {next : ℕ} {out : List ℕ} → Placed (write_number (length sizes)) place mid next out → ComponentsRoom sizes trees out next
+      components-fit q =
+          record { held = w.held; room = omega (arith, up_to, placed_same points-fit.1 p, placed_same count_fits.1 q, p.end, q.end, whole, w.room) }
 
     module _ {next : ℕ} {out : List ℕ} (q : Placed (write_number (length sizes)) front mid next out) where
-      pub components-fit : ComponentsRoom sizes trees out next
-      components-fit =
-          record { held = w.held; room = omega (arith, placed_same points-fit.1 p, placed_same count_fits.1 q, p.end, q.end, whole, w.room) }
-
       pub system-written : (r : ℕ) (after : List ℕ) → ((S : System) → Holds S sizes trees → Placed (bytes (gather component_numbers S)) next out r after)
           → (S : System) → Holds S sizes trees → Placed (written S) at before r after
       unfolding written
       system-written r after f S h =
-          let body : Placed (write_number (length sizes) ++ bytes (gather component_numbers S)) front mid r after = placed-then count_fits.1 q (f S h) in
+          let body : Placed (write_number (length sizes) ++ bytes (gather component_numbers S)) front mid r after = placed-then (count_fits (omega arith)).1 q (f S h) in
           rw (held-points h, held-count h) at (placed-then points-fit.1 p body)
 
 -- The whole system put into the output, after a test whether it lacks room.

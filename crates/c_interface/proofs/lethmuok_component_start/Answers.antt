@@ -16,6 +16,6 @@ reply_number-requires c =
 pub returns : goal.returns
 returns c =
     let a = c.args in
-    let shown : answer_of c.map.result ≡ start_in (part_answer c.stretch_of.result) = search rules in
+    let told : answer_of c.map.result ≡ start_in (part_answer c.stretch_of.result) = search rules in
     start_is a.code.now a.position (λ j h. omega (arith, c.type_inv.code j)) c.well_formed.0.1 _ c.stretch_of.ensures
-    (c.reply_number.ensures ∙ ap signed_of shown)
+    (c.reply_number.ensures ∙ ap signed_of told)

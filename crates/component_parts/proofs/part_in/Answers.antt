@@ -12,7 +12,7 @@ pub overflow_add-to : goal.overflow_add-to
 overflow_add-to c = omega (arith, c.from.ensures, next_fits (code-held c.requires) c.beginning_of-begin.ensures (omega arith))
 
 pub slice_bounds-part_from-end : goal.slice_bounds-part_from-end
-slice_bounds-part_from-end c = rw c.from.ensures (next_fits (code-held c.requires) c.beginning_of-begin.ensures (omega arith))
+slice_bounds-part_from-end c = omega (arith, c.from.ensures, next_fits (code-held c.requires) c.beginning_of-begin.ensures (omega arith))
 
 pub part_from-found-requires : goal.part_from-found-requires
 part_from-found-requires c =

@@ -1,3 +1,4 @@
+use native.Mathlib.Omega.{arith}
 use Rattle.writing.proofs.Placements.{points-fit, count_fits, components-fit, system-written}
 use Rattle.writing.proofs.StoredSystem.write.Goals as goal
 
@@ -5,11 +6,10 @@ pub put_number-front-requires : goal.put_number-front-requires
 put_number-front-requires c = points-fit c.requires
 
 pub put_number-next-requires : goal.put_number-next-requires
-put_number-next-requires c = count_fits c.requires c.put_number-front.ensures
+put_number-next-requires c = let p = c.put_number-front.ensures in count_fits c.requires p (omega (arith, p.end))
 
 pub write_components-requires : goal.write_components-requires
-write_components-requires c =
-    components-fit c.requires c.put_number-front.ensures c.put_number-next.ensures
+write_components-requires c = let p = c.put_number-front.ensures in components-fit c.requires p (omega (arith, p.end)) c.put_number-next.ensures
 
 pub returns : goal.returns
 returns c =
