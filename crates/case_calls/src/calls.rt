@@ -1,8 +1,8 @@
-// Calls of entries, for comparisons that go on with what they find.
+// Calls of entries, for comparisons that go on with what they find. A list comes back with all that stands behind it.
 use case_text::faults::Fault;
-use case_text::lent::{Called, call};
+use case_text::lent;
+use case_text::lists::List;
 use patterns::{Found, Refusal, Reply};
-use std::alloc::Global;
 
 // More room than any output takes.
 const WIDE: usize = 2000;
@@ -11,54 +11,50 @@ fn refused(_: Refusal) -> Fault {
     Fault::Refused
 }
 
-// The list that an entry writes, or none where it finds none.
-fn found<F: FnOnce(&mut [u8]) -> Found>(alloc: Global, entry: F) -> Result<Option<Vec<u8>>, Fault>
+// The list that an entry writes, where it finds one.
+fn found<F: FnOnce(&mut [u8]) -> Found>(entry: F) -> Result<Option<List>, Refusal>
     requires { F.IsAlwaysCallable entry }
 {
-    let Called { answer, mut output } = call(alloc, WIDE, entry)?;
-    match answer.map_err(refused)? {
-        Some(len) => {
-            output.truncate(len);
-            Ok(Some(output))
-        }
-        None => Ok(None),
-    }
+    let called = lent::call(WIDE, entry);
+    let bytes = called.bytes;
+    Ok(called.answer?.map(|len| List { bytes, len }))
 }
 
-// The list that an entry writes.
-fn written<F: FnOnce(&mut [u8]) -> Reply>(alloc: Global, entry: F) -> Result<Vec<u8>, Fault>
+// The list that an entry writes; of no bytes where it writes none.
+fn written<F: FnOnce(&mut [u8]) -> Reply>(entry: F) -> List
     requires { F.IsAlwaysCallable entry }
 {
-    let Called { answer, mut output } = call(alloc, WIDE, entry)?;
-    output.truncate(answer.map_err(refused)?);
-    Ok(output)
+    let called = lent::call(WIDE, entry);
+    let bytes = called.bytes;
+    let len = called.answer.unwrap_or(0);
+    List { bytes, len }
 }
 
-pub fn first(alloc: Global, n: usize) -> Result<Vec<u8>, Fault> {
-    written(alloc, |out| engine::first(n, out))
+pub fn first(n: usize) -> List {
+    written(|out| engine::first(n, out))
 }
 
-pub fn code_of_map(alloc: Global, table: &[u8]) -> Result<Vec<u8>, Fault> {
-    written(alloc, |out| engine::code_of_map(table, out))
+pub fn code_of_map(table: &[u8]) -> List {
+    written(|out| engine::code_of_map(table, out))
 }
 
-pub fn map_of_code(alloc: Global, code: &[u8]) -> Result<Vec<u8>, Fault> {
-    written(alloc, |out| engine::map_of_code(code, out))
+pub fn map_of_code(code: &[u8]) -> List {
+    written(|out| engine::map_of_code(code, out))
 }
 
-// A renaming of the points of f that makes it g, where there is one.
-pub fn isomorphism(alloc: Global, f: &[u8], g: &[u8]) -> Result<Option<Vec<u8>>, Fault> {
-    found(alloc, |out| engine::isomorphism(f, g, out))
+// A renaming of the points of f that makes it g; of no bytes where there is none.
+pub fn isomorphism(f: &[u8], g: &[u8]) -> List {
+    written(|out| Ok(engine::isomorphism(f, g, out)?.unwrap_or(0)))
 }
 
 // The code after this one; none after the last.
-pub fn successor(alloc: Global, code: &[u8]) -> Result<Option<Vec<u8>>, Fault> {
-    found(alloc, |out| engine::successor(code, out))
+pub fn successor(code: &[u8]) -> Result<Option<List>, Refusal> {
+    found(|out| engine::successor(code, out))
 }
 
 // The code before this one; none before the first.
-pub fn predecessor(alloc: Global, code: &[u8]) -> Result<Option<Vec<u8>>, Fault> {
-    found(alloc, |out| engine::predecessor(code, out))
+pub fn predecessor(code: &[u8]) -> Result<Option<List>, Refusal> {
+    found(|out| engine::predecessor(code, out))
 }
 
 // Whether the code is accepted, and has n points.

@@ -1,6 +1,7 @@
 // The entries by their numbers in the files of cases, and what a case gives to one.
 use crate::answers::Answer;
 use case_text::faults::Fault;
+use case_text::lists::List;
 
 #[derive(Clone, Copy, Debug, PartialEq, Eq, Hash)]
 pub enum Entry {
@@ -40,11 +41,11 @@ impl TryFrom<usize> for Entry {
 }
 
 // Two lists, of which most entries take the first, and a count, which `first` takes.
-#[derive(Debug, Drop)]
+#[derive(Clone, Copy, Debug)]
 pub struct Input {
     pub count: usize,
-    pub first: Vec<u8>,
-    pub second: Vec<u8>,
+    pub first: List,
+    pub second: List,
 }
 
 impl Entry {

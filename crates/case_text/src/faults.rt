@@ -1,12 +1,9 @@
 // Why a comparison cannot be made. It does not hold then.
-use std::alloc::{AllocError, AllocFailed};
 use std::error::Error;
 use std::fmt;
 
 #[derive(Clone, Copy, Debug, PartialEq, Eq, Hash)]
 pub enum Fault {
-    OutOfMemory,
-
     // The line is no case: it ends too early, or has a number that may not stand there.
     Malformed,
 
@@ -17,7 +14,6 @@ pub enum Fault {
 impl fmt::Display for Fault {
     fn fmt<W: fmt::Write>(&self, f: &mut fmt::Formatter<W>) -> fmt::Result {
         f.write_str(match self {
-            Fault::OutOfMemory => "out of memory",
             Fault::Malformed => "the line is no case",
             Fault::Refused => "an entry refused",
         })
@@ -25,15 +21,3 @@ impl fmt::Display for Fault {
 }
 
 impl Error for Fault {}
-
-impl From<AllocError> for Fault {
-    fn from(_: AllocError) -> Fault {
-        Fault::OutOfMemory
-    }
-}
-
-impl<T: Drop> From<AllocFailed<T>> for Fault {
-    fn from(_: AllocFailed<T>) -> Fault {
-        Fault::OutOfMemory
-    }
-}

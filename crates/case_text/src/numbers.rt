@@ -1,6 +1,6 @@
 // The numbers of a case: decimal ones, each ended by a space or the end of the line [tools/README.md].
 use crate::faults::Fault;
-use std::alloc::Global;
+use crate::lists::List;
 use std::str::{FromStr, SplitAsciiWhitespace};
 
 // The numbers of a line that are still to be read.
@@ -11,21 +11,6 @@ pub struct Numbers<'a> {
 
 // What an entry told: two numbers, or the number of the cause of its refusal.
 pub type Told = Result<(usize, usize), u8>;
-
-// A list as it is written: its length, and the pattern that repeats until the length is reached.
-#[derive(Debug, Drop)]
-pub struct Pattern {
-    pub len: usize,
-    pub bytes: Vec<u8>,
-}
-
-impl Pattern {
-    // The list; of a pattern that is longer it is the beginning, and one of no bytes makes none.
-    pub fn repeated(&self, alloc: Global) -> Result<Vec<u8>, Fault> {
-        let bytes = self.bytes.iter().copied();
-        Ok(bytes.cycle().take(self.len).collect(alloc)?)
-    }
-}
 
 impl<'a> Numbers<'a> {
     pub fn of(line: &'a str) -> Self {
@@ -67,18 +52,20 @@ impl<'a> Numbers<'a> {
         }
     }
 
-    // The length of a list, the length of its pattern, and the pattern.
-    pub fn pattern(&mut self, alloc: Global) -> Result<Pattern, Fault> {
+    // A list: its length, the length of its pattern and the pattern, which is repeated until the length is reached. A pattern that is longer than its list is read whole,
+    // and then stands behind the list too, where a comparison finds it. Without a pattern the list is as it was filled.
+    pub fn list(&mut self) -> Result<List, Fault> {
         let len = self.number()?;
         let period = self.number()?;
-        let mut bytes = Vec::new(alloc);
-        for _ in 0..period {
-            bytes.push(self.byte()?)?;
+        let mut bytes = List::empty().bytes;
+        let (pattern, rest) = bytes.split_at_mut_checked(period).ok_or(Fault::Malformed)?;
+        for place in pattern.iter_mut() {
+            *place = self.byte()?;
         }
-        Ok(Pattern { len, bytes })
-    }
-
-    pub fn list(&mut self, alloc: Global) -> Result<Vec<u8>, Fault> {
-        self.pattern(alloc)?.repeated(alloc)
+        let repeated = pattern.iter().cycle().take(len.saturating_sub(period));
+        for (place, byte) in rest.iter_mut().zip(repeated) {
+            *place = *byte;
+        }
+        Ok(List { bytes, len })
     }
 }

@@ -1,9 +1,9 @@
 // Files of cases, one a line, and how many of the comparisons of a group hold.
 use crate::faults::Fault;
 use crate::numbers::Numbers;
-use std::alloc::Global;
+use std::io::Write;
 use std::rt::Files;
-use std::{fmt, fs, io};
+use std::{fmt, fs, io, str};
 
 // Of how many comparisons how many hold.
 #[derive(Clone, Copy, Debug, Default, PartialEq, Eq, Hash)]
@@ -28,40 +28,64 @@ impl fmt::Display for Score {
     }
 }
 
+// A file: its first `len` bytes.
+#[derive(Clone, Copy, Debug)]
+pub struct File {
+    pub bytes: [u8; 65536],
+    pub len: usize,
+}
+
+impl File {
+    pub fn as_slice(&self) -> &[u8] {
+        self.bytes.get(..self.len).unwrap_or(&self.bytes)
+    }
+}
+
+// Reads the file of this name into `out`, and answers how many bytes it has there; none where it cannot be opened.
+fn read_file(files: &impl Files, name: &[u8], out: &mut [u8]) -> Option<usize> {
+    let name = str::from_utf8(name).ok()?;
+    let mut file = fs::open(files, name).ok()?;
+    Some(input::read_full(&mut file, out))
+}
+
+// The file of this name, up to its first 65,536 bytes; one of no bytes where it cannot be opened.
+pub fn load(files: &impl Files, name: &[u8]) -> File {
+    let mut bytes = [0; 65536];
+    let len = read_file(files, name, &mut bytes).unwrap_or(0);
+    File { bytes, len }
+}
+
 // The line of a group.
-pub fn report(to: &impl Print, group: &str, score: Score) -> io::Result<()> {
-    println!(to; "{group}: {score}")
+pub fn report(to: &impl Print, group: &[u8], score: Score) -> io::Result<()> {
+    io::writer(to).write_all(group)?;
+    println!(to; ": {score}")
 }
 
-// The text of the file of this name; an empty one where it cannot be read.
-pub fn load<R: Files + AllocGlobal>(rt: &R, name: &str) -> String {
-    fs::read_to_string(rt, name).unwrap_or_else(|_| String::new(rt.alloc()))
-}
-
-// Of how many lines `holds` is true. A line on which it fails, or of which it leaves numbers, does not hold.
-fn score_of<F: FnMut(Global, &mut Numbers<'_>) -> Result<bool, Fault>>(
-    alloc: Global,
-    text: &str,
-    mut holds: F,
-) -> Score
+// Of how many lines `holds` is true. A line on which it fails, of which it leaves numbers, or that is no text, does not hold.
+fn score_of<F: FnMut(&mut Numbers<'_>) -> Result<bool, Fault>>(lines: &[u8], mut holds: F) -> Score
     requires { F.IsAlwaysCallable holds }
 {
     let mut score = Score::default();
-    for line in text.lines() {
-        let mut numbers = Numbers::of(line);
-        let held = holds(alloc, &mut numbers) == Ok(true);
-        score.count(held && numbers.is_done());
+    for line in lines.split_inclusive(|&byte| byte == b'\n') {
+        let held = match str::from_utf8(line) {
+            Ok(text) => {
+                let mut numbers = Numbers::of(text);
+                holds(&mut numbers) == Ok(true) && numbers.is_done()
+            }
+            Err(_) => false,
+        };
+        score.count(held);
     }
     score
 }
 
 // The cases of the file of this name, as the group of this name.
-pub fn run<R, F>(rt: &R, name: &str, group: &str, holds: F) -> io::Result<()>
+pub fn run<R, F>(rt: &R, name: &[u8], group: &[u8], holds: F) -> io::Result<()>
 where
-    R: Files + Print + AllocGlobal,
-    F: FnMut(Global, &mut Numbers<'_>) -> Result<bool, Fault>,
+    R: Files + Print,
+    F: FnMut(&mut Numbers<'_>) -> Result<bool, Fault>,
     requires { F.IsAlwaysCallable holds }
 {
-    let text = load(rt, name);
-    report(rt, group, score_of(rt.alloc(), text.as_str(), holds))
+    let file = load(rt, name);
+    report(rt, group, score_of(file.as_slice(), holds))
 }

@@ -3,13 +3,15 @@
 
 use case_calls::answers::Answer;
 use case_text::faults::Fault;
-use case_text::lent::FILLING;
+use case_text::lists::{FILLING, List};
 use case_text::numbers::Numbers;
 use patterns::{Census, Refusal, Row};
-use std::alloc::{AllocError, Global};
 
 // The number of the census in the files of cases.
 pub const CENSUS: usize = 7;
+
+// Places for rows: the greatest room of a case, and more.
+const PLACES: usize = 24;
 
 // What stands in every row before a call.
 const BLANK: Row = Row {
@@ -17,97 +19,85 @@ const BLANK: Row = Row {
     cycles: FILLING,
 };
 
-// What is told, or the number of the cause, and the rows.
-#[derive(Debug, Drop)]
+// What is told, or the number of the cause, and all rows, of which the first places were lent.
+#[derive(Clone, Copy, Debug, PartialEq, Eq)]
 struct Counted {
     told: Result<Census, u8>,
-    rows: Vec<Row>,
+    rows: [Row; 24],
 }
 
 impl Counted {
-    fn of(reply: Result<Census, Refusal>, rows: Vec<Row>) -> Counted {
+    fn of(reply: Result<Census, Refusal>, rows: [Row; 24]) -> Counted {
         Counted {
             told: reply.map_err(u8::from),
             rows,
         }
     }
-
-    // Whether this was told, and just these rows stand at the beginning of those that were lent.
-    fn is(&self, wanted: &Counted) -> bool {
-        match self.rows.strip_prefix(wanted.rows.as_slice()) {
-            Some(rest) => self.told == wanted.told && rest.iter().all(|row| *row == BLANK),
-            None => false,
-        }
-    }
 }
 
-// Rows that are written one after another: each its length, and its number of cycles.
-fn rows_of(alloc: Global, list: &[u8]) -> Result<Vec<Row>, Fault> {
-    let mut rows = Vec::new(alloc);
-    for row in list.chunks(2) {
-        let [cycle_length, cycles] = row else {
-            return Err(Fault::Malformed);
-        };
-        rows.push(Row {
-            cycle_length: *cycle_length,
-            cycles: *cycles,
-        })?;
+// Rows that are written one after another: each its length, and its number of cycles. After them stands the filling.
+fn rows_of(list: &[u8]) -> [Row; 24] {
+    let mut rows = [BLANK; PLACES];
+    for (row, written) in rows.iter_mut().zip(list.chunks(2)) {
+        if let [cycle_length, cycles] = written {
+            *row = Row {
+                cycle_length: *cycle_length,
+                cycles: *cycles,
+            };
+        }
     }
-    Ok(rows)
+    rows
 }
 
 // What a case asks for: in its list the height comes before the rows. A refusal tells nothing but its cause.
-fn wanted(alloc: Global, numbers: &mut Numbers<'_>) -> Result<Counted, Fault> {
+fn wanted(numbers: &mut Numbers<'_>) -> Result<Counted, Fault> {
     let answer = Answer::read(numbers)?;
-    let output = numbers.list(alloc)?;
-    match (answer, output.as_slice()) {
-        (Answer::Number(rows), [height, list @ ..]) => Ok(Counted {
-            told: Ok(Census {
+    let output = numbers.list()?;
+    let bytes = &output.bytes[..];
+    let told = match answer {
+        Answer::Number(rows) if output.len == rows.saturating_mul(2).saturating_add(1) => {
+            Ok(Census {
                 rows,
-                height: usize::from(*height),
-            }),
-            rows: rows_of(alloc, list)?,
-        }),
-        (Answer::Refused(cause), []) => Ok(Counted {
-            told: Err(cause),
-            rows: Vec::new(alloc),
-        }),
-        _ => Err(Fault::Malformed),
+                height: usize::from(bytes[0]),
+            })
+        }
+        Answer::Refused(cause) if output == List::empty() => Err(cause),
+        _ => return Err(Fault::Malformed),
+    };
+    let rows = rows_of(&bytes[1..]);
+    Ok(Counted { told, rows })
+}
+
+// The census in a list of structs of so many places, or of all that there are.
+fn in_rows(table: &[u8], places: usize) -> Counted {
+    let mut rows = [BLANK; PLACES];
+    let places = places.min(PLACES);
+    let reply = engine::census(table, &mut rows[..places]);
+    Counted::of(reply, rows)
+}
+
+// The census in two columns of so many places, or of all that there are.
+fn in_columns(table: &[u8], places: usize) -> Counted {
+    let mut lengths = [FILLING; PLACES];
+    let mut counts = [FILLING; PLACES];
+    let places = places.min(PLACES);
+    let reply = engine::census_columns(table, &mut lengths[..places], &mut counts[..places]);
+    let mut rows = [BLANK; PLACES];
+    for (row, (cycle_length, cycles)) in rows.iter_mut().zip(lengths.iter().zip(&counts)) {
+        *row = Row {
+            cycle_length: *cycle_length,
+            cycles: *cycles,
+        };
     }
-}
-
-// The census in a list of structs of so many places.
-fn in_rows(alloc: Global, table: &[u8], places: usize) -> Result<Counted, AllocError> {
-    let mut rows = vec![in alloc; BLANK; places]?;
-    let reply = engine::census(table, &mut rows);
-    Ok(Counted::of(reply, rows))
-}
-
-// The census in two columns of so many places.
-fn in_columns(alloc: Global, table: &[u8], places: usize) -> Result<Counted, AllocError> {
-    let mut lengths = vec![in alloc; FILLING; places]?;
-    let mut counts = vec![in alloc; FILLING; places]?;
-    let reply = engine::census_columns(table, &mut lengths, &mut counts);
-    let rows = lengths
-        .iter()
-        .zip(&counts)
-        .map(|(&cycle_length, &cycles)| Row {
-            cycle_length,
-            cycles,
-        })
-        .collect(alloc)?;
-    Ok(Counted::of(reply, rows))
+    Counted::of(reply, rows)
 }
 
 // Whether a case holds, of which the places, the table, an empty list, the answer and the rows are left.
-pub fn holds(alloc: Global, numbers: &mut Numbers<'_>) -> Result<bool, Fault> {
+pub fn holds(numbers: &mut Numbers<'_>) -> Result<bool, Fault> {
     let places = numbers.number()?;
-    let table = numbers.list(alloc)?;
-    let second = numbers.list(alloc)?;
-    let wanted = wanted(alloc, numbers)?;
-    Ok(
-        second.is_empty()
-            && in_rows(alloc, &table, places)?.is(&wanted)
-            && in_columns(alloc, &table, places)?.is(&wanted),
-    )
+    let table = numbers.list()?;
+    let second = numbers.list()?;
+    let wanted = wanted(numbers)?;
+    let table = table.as_slice();
+    Ok(second.len == 0 && in_rows(table, places) == wanted && in_columns(table, places) == wanted)
 }

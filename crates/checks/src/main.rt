@@ -7,7 +7,6 @@ use case_text::faults::Fault;
 use case_text::numbers::Numbers;
 use case_text::scores;
 use census_checks::CENSUS;
-use std::alloc::Global;
 use std::io;
 use std::rt::Files;
 
@@ -34,16 +33,16 @@ const ANSWERS: [(&str, &str); 10] = [
 ];
 
 // Whether a case holds, whose first number is that of its entry.
-fn holds(alloc: Global, numbers: &mut Numbers<'_>) -> Result<bool, Fault> {
+fn holds(numbers: &mut Numbers<'_>) -> Result<bool, Fault> {
     match numbers.number()? {
-        CENSUS => census_checks::holds(alloc, numbers),
-        number => entry_checks::cases::holds(alloc, Entry::try_from(number)?, numbers),
+        CENSUS => census_checks::holds(numbers),
+        number => entry_checks::cases::holds(Entry::try_from(number)?, numbers),
     }
 }
 
-fn run(rt: &(impl Files + Print + AllocGlobal), groups: &[(&str, &str)]) -> io::Result<()> {
+fn run(rt: &(impl Files + Print), groups: &[(&str, &str)]) -> io::Result<()> {
     for (name, group) in groups.iter().copied() {
-        scores::run(rt, name, group, holds)?;
+        scores::run(rt, name.as_bytes(), group.as_bytes(), holds)?;
     }
     Ok(())
 }
@@ -53,9 +52,9 @@ fn main(rt: HostRuntime) -> io::Result<()> {
     list_checks::run(&rt)?;
     run(&rt, &REFUSALS)?;
     run(&rt, &ANSWERS)?;
-    greatest_checks::run(&rt, "greatest", "greatest periods")?;
-    page_checks::run(&rt, "pages", "pages of codes")?;
-    page_checks::run(&rt, "pages_long", "long pages")?;
-    reader_checks::run(&rt, "components")?;
-    entry_checks::pairs::run(&rt, "pairs")
+    greatest_checks::run(&rt, b"greatest", b"greatest periods")?;
+    page_checks::run(&rt, b"pages", b"pages of codes")?;
+    page_checks::run(&rt, b"pages_long", b"long pages")?;
+    reader_checks::run(&rt, b"components")?;
+    entry_checks::pairs::run(&rt, b"pairs")
 }

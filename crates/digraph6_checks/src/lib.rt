@@ -11,20 +11,16 @@ use std::io;
 use std::rt::Files;
 
 // The cases of codes to lines in the file of this name, as the group of this name.
-pub fn run_out(rt: &(impl Files + Print + AllocGlobal), name: &str, group: &str) -> io::Result<()> {
+pub fn run_out(rt: &(impl Files + Print), name: &[u8], group: &[u8]) -> io::Result<()> {
     scores::run(rt, name, group, cases::goes_out)
 }
 
 // Those of lines to codes.
-pub fn run_in(rt: &(impl Files + Print + AllocGlobal), name: &str, group: &str) -> io::Result<()> {
+pub fn run_in(rt: &(impl Files + Print), name: &[u8], group: &[u8]) -> io::Result<()> {
     scores::run(rt, name, group, cases::comes_in)
 }
 
 // Those of both.
-pub fn run_both(
-    rt: &(impl Files + Print + AllocGlobal),
-    name: &str,
-    group: &str,
-) -> io::Result<()> {
+pub fn run_both(rt: &(impl Files + Print), name: &[u8], group: &[u8]) -> io::Result<()> {
     scores::run(rt, name, group, cases::goes_both_ways)
 }

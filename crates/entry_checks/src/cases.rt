@@ -5,24 +5,23 @@ use case_calls::entries::{Entry, Input};
 use case_text::faults::Fault;
 use case_text::lent;
 use case_text::numbers::Numbers;
-use std::alloc::Global;
 
 // The count that `first` takes stands in the place of the first list's length.
-fn input(alloc: Global, numbers: &mut Numbers<'_>) -> Result<Input, Fault> {
-    let first = numbers.pattern(alloc)?;
+fn input(numbers: &mut Numbers<'_>) -> Result<Input, Fault> {
+    let first = numbers.list()?;
     Ok(Input {
         count: first.len,
-        first: first.repeated(alloc)?,
-        second: numbers.list(alloc)?,
+        first,
+        second: numbers.list()?,
     })
 }
 
 // Whether a case of this entry holds: what is left of it is the room, the input, the answer and the output.
-pub fn holds(alloc: Global, entry: Entry, numbers: &mut Numbers<'_>) -> Result<bool, Fault> {
+pub fn holds(entry: Entry, numbers: &mut Numbers<'_>) -> Result<bool, Fault> {
     let room = numbers.number()?;
-    let input = input(alloc, numbers)?;
+    let input = input(numbers)?;
     let answer = Answer::read(numbers)?;
-    let output = numbers.list(alloc)?;
-    let called = lent::call(alloc, room, |out| entry.answer(&input, out))?;
+    let output = numbers.list()?;
+    let called = lent::call(room, |out| entry.answer(&input, out));
     Ok(called.is(&answer, &output))
 }

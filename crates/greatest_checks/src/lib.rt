@@ -8,8 +8,6 @@ use case_calls::calls;
 use case_text::faults::Fault;
 use case_text::numbers::Numbers;
 use case_text::{lent, scores};
-use patterns::GreatestPeriod;
-use std::alloc::Global;
 use std::io;
 use std::rt::Files;
 
@@ -17,47 +15,32 @@ use std::rt::Files;
 const ENOUGH: usize = 1000;
 
 // Whether a code is accepted with n points, and its map has as many and this period.
-fn has_period(alloc: Global, code: &[u8], n: usize, period: u64) -> Result<bool, Fault> {
+fn has_period(code: &[u8], n: usize, period: u64) -> bool {
     if !calls::is_accepted(code, n) {
-        return Ok(false);
+        return false;
     }
-    let table = calls::map_of_code(alloc, code)?;
-    Ok(table.len() == n && calls::period(&table)? == period)
+    let table = calls::map_of_code(code);
+    table.len == n && calls::period(table.as_slice()) == Ok(period)
 }
 
-// Whether the output begins with the code that was found, of n points and with the period that was told, and is as it was filled after it.
-fn is_written(
-    alloc: Global,
-    output: &[u8],
-    found: GreatestPeriod,
-    n: usize,
-) -> Result<bool, Fault> {
-    match output.split_at_checked(found.length) {
-        Some((code, rest)) => Ok(
-            code.len() <= ENOUGH
-                && lent::is_filled(rest)
-                && has_period(alloc, code, n, found.period)?,
-        ),
-        None => Ok(false),
-    }
-}
-
-fn holds(alloc: Global, numbers: &mut Numbers<'_>) -> Result<bool, Fault> {
+// Whether the answer is the one that is told, and the output begins with the code that was found, and is as it was filled after it; where none was found, from the
+// first byte on.
+fn holds(numbers: &mut Numbers<'_>) -> Result<bool, Fault> {
     let n = numbers.number()?;
     let room = numbers.number()?;
     let told = Answer::read(numbers)?;
-    let called = lent::call(alloc, room, |out| engine::greatest_period(n, out))?;
-    let period = called.answer.map(|found| found.period);
-    if Answer::from(period) != told {
+    let called = lent::call(room, |out| engine::greatest_period(n, out));
+    if Answer::from(called.answer.map(|found| found.period)) != told {
         return Ok(false);
     }
-    match called.answer {
-        Ok(found) => is_written(alloc, &called.output, found, n),
-        Err(_) => Ok(lent::is_filled(&called.output)),
-    }
+    Ok(match called.answer {
+        Ok(found) => called.beginning(found.length).is_some_and(|code| code.len() <= ENOUGH
+            && has_period(code, n, found.period)),
+        Err(_) => called.beginning(0).is_some(),
+    })
 }
 
 // The cases of the file of this name, as the group of this name.
-pub fn run(rt: &(impl Files + Print + AllocGlobal), name: &str, group: &str) -> io::Result<()> {
+pub fn run(rt: &(impl Files + Print), name: &[u8], group: &[u8]) -> io::Result<()> {
     scores::run(rt, name, group, holds)
 }

@@ -5,10 +5,10 @@ use digraph6_checks::{run_both, run_in, run_out};
 use std::io;
 
 fn main(rt: HostRuntime) -> io::Result<()> {
-    run_out(&rt, "digraph6_out", "digraph6 of codes")?;
-    run_out(&rt, "digraph6_out_long", "digraph6 of long codes")?;
-    run_in(&rt, "digraph6_in", "codes of digraph6")?;
-    run_in(&rt, "digraph6_sizes", "sizes of digraph6")?;
-    run_in(&rt, "digraph6_in_long", "codes of long digraph6")?;
-    run_both(&rt, "digraph6_back", "digraph6 in and out")
+    run_out(&rt, b"digraph6_out", b"digraph6 of codes")?;
+    run_out(&rt, b"digraph6_out_long", b"digraph6 of long codes")?;
+    run_in(&rt, b"digraph6_in", b"codes of digraph6")?;
+    run_in(&rt, b"digraph6_sizes", b"sizes of digraph6")?;
+    run_in(&rt, b"digraph6_in_long", b"codes of long digraph6")?;
+    run_both(&rt, b"digraph6_back", b"digraph6 in and out")
 }

@@ -10,11 +10,11 @@ use std::io;
 use std::rt::Files;
 
 // The totals, the connected ones, the tables of all codes, the listings of 0 to 8 points, and inputs that are no count.
-pub fn run(rt: &(impl Files + Print + AllocGlobal)) -> io::Result<()> {
-    let found = totals::compare(rt.alloc());
-    report(rt, "totals", found.codes)?;
-    report(rt, "connected", found.connected)?;
-    report(rt, "tables of all codes", found.tables)?;
-    report(rt, "plain listings", programs::listings(rt)?)?;
-    report(rt, "bad counts", programs::bad_counts(rt.alloc())?)
+pub fn run(rt: &(impl Files + Print)) -> io::Result<()> {
+    let found = totals::compare();
+    report(rt, b"totals", found.codes)?;
+    report(rt, b"connected", found.connected)?;
+    report(rt, b"tables of all codes", found.tables)?;
+    report(rt, b"plain listings", programs::listings(rt))?;
+    report(rt, b"bad counts", programs::bad_counts())
 }

@@ -2,7 +2,6 @@
 use case_calls::calls;
 use case_text::faults::Fault;
 use case_text::scores::Score;
-use std::alloc::Global;
 
 // More codes than 10 points have.
 const LIMIT: usize = 10000;
@@ -42,14 +41,15 @@ impl Totals {
     }
 
     // Goes through the list of n points, up to the last.
-    fn of_list(alloc: Global, n: usize) -> Result<Totals, Fault> {
+    fn of_list(n: usize) -> Result<Totals, Fault> {
         let mut totals = Totals::default();
-        let mut code = calls::first(alloc, n)?;
+        let mut code = calls::first(n);
         for _ in 0..LIMIT {
-            totals.count(&code)?;
-            match calls::successor(alloc, &code)? {
-                Some(next) => code = next,
-                None => return Ok(totals),
+            totals.count(code.as_slice())?;
+            match calls::successor(code.as_slice()) {
+                Ok(Some(next)) => code = next,
+                Ok(None) => return Ok(totals),
+                Err(_) => break,
             }
         }
         Err(Fault::Refused)
@@ -65,10 +65,10 @@ pub struct Scores {
 }
 
 // Compares the lists of 0 to 10 points. None is right of a list that does not end by "last".
-pub fn compare(alloc: Global) -> Scores {
+pub fn compare() -> Scores {
     let mut scores = Scores::default();
     for (n, (codes, connected, tables)) in KNOWN.iter().copied().enumerate() {
-        let found = Totals::of_list(alloc, n).ok();
+        let found = Totals::of_list(n).ok();
         scores
             .codes
             .count(found.map(|found| found.codes) == Some(codes));

@@ -4,22 +4,21 @@
 use case_text::faults::Fault;
 use case_text::numbers::Numbers;
 use case_text::{lent, scores};
-use std::alloc::Global;
 use std::io;
 use std::rt::Files;
 
-fn holds(alloc: Global, numbers: &mut Numbers<'_>) -> Result<bool, Fault> {
-    let code = numbers.list(alloc)?;
+fn holds(numbers: &mut Numbers<'_>) -> Result<bool, Fault> {
+    let code = numbers.list()?;
     let wanted = numbers.number()?;
     let room = numbers.number()?;
     let told = numbers.told()?;
-    let output = numbers.list(alloc)?;
-    let called = lent::call(alloc, room, |out| engine::page(&code, wanted, out))?;
+    let output = numbers.list()?;
+    let called = lent::call(room, |out| engine::page(code.as_slice(), wanted, out));
     let answer = called.answer.map(|page| (page.codes, page.bytes));
-    Ok(answer.map_err(u8::from) == told && lent::is_written(&called.output, &output))
+    Ok(answer.map_err(u8::from) == told && called.has_written(&output))
 }
 
 // The cases of the file of this name, as the group of this name.
-pub fn run(rt: &(impl Files + Print + AllocGlobal), name: &str, group: &str) -> io::Result<()> {
+pub fn run(rt: &(impl Files + Print), name: &[u8], group: &[u8]) -> io::Result<()> {
     scores::run(rt, name, group, holds)
 }

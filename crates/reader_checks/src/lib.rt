@@ -4,7 +4,6 @@
 use case_text::faults::Fault;
 use case_text::numbers::{Numbers, Told};
 use case_text::scores;
-use std::alloc::Global;
 use std::io;
 use std::rt::Files;
 
@@ -15,16 +14,17 @@ fn answer(code: &[u8], position: usize) -> Told {
         .map_err(u8::from)
 }
 
-fn holds(alloc: Global, numbers: &mut Numbers<'_>) -> Result<bool, Fault> {
-    let code = numbers.list(alloc)?;
+fn holds(numbers: &mut Numbers<'_>) -> Result<bool, Fault> {
+    let code = numbers.list()?;
     let position = numbers.number()?;
     let told = numbers.told()?;
-    let part = numbers.list(alloc)?;
-    let shown = component_reader::component(&code, position);
-    Ok(answer(&code, position) == told && shown == part.as_slice())
+    let part = numbers.list()?;
+    let code = code.as_slice();
+    let shown = component_reader::component(code, position);
+    Ok(answer(code, position) == told && shown == part.as_slice())
 }
 
 // The cases of the file of this name.
-pub fn run(rt: &(impl Files + Print + AllocGlobal), name: &str) -> io::Result<()> {
-    scores::run(rt, name, "component reader", holds)
+pub fn run(rt: &(impl Files + Print), name: &[u8]) -> io::Result<()> {
+    scores::run(rt, name, b"component reader", holds)
 }
