@@ -1,3 +1,2 @@
 -- The laws that the entry cites.
 pub mod CodedPut
-pub mod Refusals

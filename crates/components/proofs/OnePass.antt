@@ -178,7 +178,7 @@ module _ {s : List ℕ} {at period : ℕ} (w : Along s at (Kept period)) where
         ∙ add-zero trees.times
 
     -- something is over: the rotation that begins after the period is less
-    kept-cut : (length s % period ≡ 0 → ⊥) → None ≡ rotation_test c
+    pub kept-cut : (length s % period ≡ 0 → ⊥) → None ≡ rotation_test c
     unfolding compare_component
     kept-cut k =
         let n = whole.count in
@@ -186,7 +186,7 @@ module _ {s : List ℕ} {at period : ℕ} (w : Along s at (Kept period)) where
         lesser-told c (turned-in n c (omega (arith, whole.word.positive, whole.word.within))) (over-less compare_tree-lawful whole.word trees some)
 
     -- nothing is over: no rotation is less, and so many equal the component
-    kept_whole : length s % period ≡ 0 → Some (length s / period) ≡ rotation_test c
+    pub kept_whole : length s % period ≡ 0 → Some (length s / period) ≡ rotation_test c
     unfolding compare_component
     kept_whole k =
         let none : trees.over ≡ [] = no-trees trees.over (sym rest-is ∙ k) in

@@ -1,7 +1,7 @@
 // The listing program [document 01, "Sheet of examples"]: it reads a count of points and writes every code of so many points, in the order of the list.
 #![tactic(auto)]
 
-ghost use Rattle.std.specs.Prelude.{◌≡◌, [], ◌≤◌, length, IfOk};
+ghost use Rattle.std.specs.Prelude.{◌≡◌, [], ◌≤◌, length};
 ghost use Rattle.patterns.specs.ListingText.{output_of};
 ghost use Rattle.lister.specs.Remaining.{remaining};
 ghost use Rattle.lister.specs.Good.{Good};
@@ -33,20 +33,34 @@ pub fn text_into(input: &[u8], out: &mut [u8]) -> usize
     piece(start(input), out).len
 }
 
-// Writes the text that is to come, piece after piece, and answers the last state: it ends only where nothing is left, or where a write fails.
-fn write_pieces(first: State, out: &mut [u8], to: &mut impl Write) -> io::Result<State>
+// The last state of a run, and whether all of its text was written.
+#[derive(Drop)]
+struct Written {
+    last: State,
+    outcome: io::Result<()>,
+}
+
+// Writes the text that is to come, piece after piece, and answers the last state: it ends only where nothing is left. After a write that fails nothing more is
+// written. The error stands beside the state, not in its place, so that the end is promised after it too.
+fn write_pieces(first: State, out: &mut [u8], to: &mut impl Write) -> Written
     requires { Good first × (4096 ≤ length out.old) }
-    ensures { IfOk result (λ last. remaining last ≡ []) }
+    ensures { remaining result.last ≡ [] }
 {
     let mut state = first;
+    let mut outcome = Ok(());
     // One piece after another until one is empty: no index is counted.
     loop {
         let step = piece(state, out);
         state = step.next;
         if step.len == 0 {
-            return Ok(state);
+            return Written {
+                last: state,
+                outcome,
+            };
         }
-        to.write_all(&out[..step.len])?;
+        if outcome.is_ok() {
+            outcome = to.write_all(&out[..step.len]);
+        }
     }
 }
 
@@ -55,6 +69,5 @@ pub fn run(rt: &(impl Input + Print)) -> io::Result<()> {
     let mut input = [0u8; 4];
     let len = input::read_full(&mut rt.reader(), &mut input);
     let mut out = [0u8; 16384];
-    write_pieces(start(&input[..len]), &mut out, &mut io::writer(rt))?;
-    Ok(())
+    write_pieces(start(&input[..len]), &mut out, &mut io::writer(rt)).outcome
 }

@@ -1,4 +1,5 @@
 -- Checking a table.
+use Rattle.std.specs.Prelude.{Result as Reply, Err}
 use mathlib.Core.Path.{◌≡◌, refl, sym, ◌∙◌}
 use mathlib.Core.Bool.{true, false}
 use mathlib.Core.List.{List, [], ◌∷◌}
@@ -9,11 +10,13 @@ use lib.ListN.{length, get_or}
 use borrow.Author.Tests.{le-ltb, lt-ltb, ltb-true, ltb-false}
 use Rattle.lists.specs.Select.{each}
 use Rattle.lists.proofs.Tests.{by-test, clash, is_false, each-head, each_tail}
+use Rattle.patterns.specs.declared.Refusal.{Refusal}
 use Rattle.patterns.specs.declared.Refusal.TheVariants.{Count, Image}
 use Rattle.patterns.specs.Table.{is_table}
-use Rattle.patterns.specs.Reading.{done, fault}
+use Rattle.patterns.specs.Reading.{Result, done, fault}
 use Rattle.patterns.specs.Entry.{checked_table}
-use Rattle.tables.specs.Tables.{Table}
+use Rattle.tables.specs.declared.Table.{Table as TheTable}
+use Rattle.tables.specs.Tables.{CheckedBy, Table}
 
 -- each byte is one of n points
 pub points-each : (n : ℕ) (f : List ℕ) → ((k : ℕ) → k < length f → get_or f k 0 < n) → each (λ y. ltb y n) f ≡ true
@@ -54,3 +57,7 @@ module _ (f : List ℕ) where
       by-test (is_table f)
       (λ t. record { table = t; small = ltb-false 200 (length f) small })
       (λ t. let k : fault Image ≡ done f = sym (rw (small, t)) ∙ e in clash cc))
+
+-- a refusal is told only where the checks find it
+pub told-refused : (o : Result (List ℕ)) (f : List ℕ) {r : Reply TheTable Refusal} {c : Refusal} → CheckedBy o f r → r ≡ Err c → o ≡ fault c
+told-refused o f k e = rw e at k
