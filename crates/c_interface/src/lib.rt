@@ -14,7 +14,8 @@ ghost use Rattle.patterns.specs.SignedReplies.{signed_of, Reported, PageReported
 
 use component_parts::stretch_of;
 use signed_replies::{
-    GreatestReply, PageReply, found_number, greatest_numbers, page_numbers, reply_number,
+    GreatestReply, PageReply, found_number, greatest_numbers, page_numbers, quantity_number,
+    reply_number,
 };
 
 // The numbers of "last", "none" and "first".
@@ -101,7 +102,7 @@ pub extern "C" fn lethmuok_product(first: &[u8], second: &[u8], out: &mut [u8]) 
 pub extern "C" fn lethmuok_table_count(code: &[u8]) -> i64
     ensures { result ≡ signed_of (answer (table_count code.now) length_is) }
 {
-    reply_number(engine::table_count(code).map(|tables| tables as usize))
+    quantity_number(engine::table_count(code))
 }
 
 // Writes an isomorphism from the map `f` to the map `g`.
@@ -133,7 +134,7 @@ pub extern "C" fn lethmuok_height(table: &[u8]) -> i64
 pub extern "C" fn lethmuok_period(table: &[u8]) -> i64
     ensures { result ≡ signed_of (answer (period_of table.now) length_is) }
 {
-    reply_number(engine::period(table).map(|steps| steps as usize))
+    quantity_number(engine::period(table))
 }
 
 // Writes a code of n points with the greatest period [document 02, paper 9: the system that runs longest].

@@ -4,7 +4,7 @@
 ghost use Rattle.std.specs.Prelude.{◌≡◌, pos};
 ghost use Rattle.std.specs.Int.{w64};
 ghost use Rattle.std.proofs.Common.{SFits};
-ghost use Rattle.patterns.specs.Replies.{Answer.refused, number_of, answer_of, page_answer, greatest_answer};
+ghost use Rattle.patterns.specs.Replies.{Answer.refused, number_of, answer_of, quantity_answer, page_answer, greatest_answer};
 ghost use Rattle.patterns.specs.SignedReplies.{signed_of, page_count, page_length, code_length, code_period};
 ghost use Rattle.signed_replies.specs.FoundNumbers.{found_signed};
 
@@ -17,7 +17,7 @@ fn refusal(cause: Refusal) -> i64
     -i64::from(u8::from(cause))
 }
 
-// The number of what was counted, or of a refusal. That it fits is asked here and in the three functions below, since they take any reply; the caller knows how great each can be.
+// The number of what was counted, or of a refusal. That it fits is asked here and in the four functions below, since they take any reply; the caller knows how great each can be.
 pub fn reply_number(reply: Reply) -> i64
     requires { SFits w64 (signed_of (answer_of reply)) }
     ensures { result ≡ signed_of (answer_of reply) }
@@ -36,6 +36,17 @@ pub fn found_number(reply: Found, none: i64) -> i64
     match reply {
         Ok(Some(n)) => n as i64,
         Ok(None) => none,
+        Err(cause) => refusal(cause),
+    }
+}
+
+// The number of a quantity of 64 bits, which is never made a `usize`, or of a refusal.
+pub fn quantity_number(reply: Result<u64, Refusal>) -> i64
+    requires { SFits w64 (signed_of (quantity_answer reply)) }
+    ensures { result ≡ signed_of (quantity_answer reply) }
+{
+    match reply {
+        Ok(number) => number as i64,
         Err(cause) => refusal(cause),
     }
 }
@@ -74,6 +85,6 @@ pub fn greatest_numbers(reply: Result<GreatestPeriod, Refusal>) -> GreatestReply
 {
     GreatestReply {
         length: reply_number(reply.map(|code| code.length)),
-        period: reply_number(reply.map(|code| code.period as usize)),
+        period: quantity_number(reply.map(|code| code.period)),
     }
 }
