@@ -17,7 +17,7 @@
  * - An output may overlap no other buffer of the same call, neither an input nor another output. Inputs may overlap, or be the same.
  * Nothing else is asked of a caller: bytes and counts may be any, and what is no map, no code or no line is refused.
  *
- * Stack. A call takes less than 64 KB: the most that was measured is 41 KB, by lethmuok_sum and lethmuok_product (tests/stack/run measures it).
+ * Stack. A call takes less than 64 KB: the most that was measured is 28 KB, by lethmuok_sum and lethmuok_product (tests/stack/run measures it).
  *
  * No function allocates memory, keeps a pointer or has a state of its own. All may run at the same time, on outputs of their own.
  */

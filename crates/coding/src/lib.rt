@@ -28,15 +28,15 @@ struct Branches<'a> {
 // Writes the tree at `x` from `at` on, its labels beside it, and answers the place after it; it has at most `left` points.
 // The branches come along the links, from the greatest point to the least, and each is inserted among those before it.
 fn tree_at(
-    branches: Branches,
+    branches: &Branches,
     x: usize,
     left: usize,
     trees: &mut [u8],
     labels: &mut [u8],
     at: usize,
 ) -> usize
-    requires { TreeOfLinks branches.last.now branches.before.now x left trees.old labels.old at }
-    ensures { (f : List ℕ) → TreeAsked f branches.entry.last.now branches.entry.before.now x left trees.old labels.old at
+    requires { TreeOfLinks branches.now.last.now branches.now.before.now x left trees.old labels.old at }
+    ensures { (f : List ℕ) → TreeAsked f branches.now.last.now branches.now.before.now x left trees.old labels.old at
         → Planted (plant_at f x ∷ []) at trees.old labels.old result trees.new labels.new }
 {
     let mut end = at + 1;
@@ -57,13 +57,13 @@ fn tree_at(
 // Writes the trees along the cycle from `x` on, and answers the place after them.
 fn trees_along(
     f: &[u8],
-    branches: Branches,
+    branches: &Branches,
     x: usize,
     trees: &mut [u8],
     labels: &mut [u8],
     at: usize,
 ) -> usize
-    requires { CycleAsked f.now branches.last.now branches.before.now x trees.old labels.old at }
+    requires { CycleAsked f.now branches.now.last.now branches.now.before.now x trees.old labels.old at }
     ensures { Planted (plants_along f.now x) at trees.old labels.old result trees.new labels.new }
 {
     let n = f.len();
@@ -80,13 +80,13 @@ fn trees_along(
 // Writes the component whose cycle goes through `x` from `at` on, its labels beside it, and answers the place after it.
 fn component_at(
     f: &[u8],
-    branches: Branches,
+    branches: &Branches,
     x: usize,
     trees: &mut [u8],
     labels: &mut [u8],
     at: usize,
 ) -> usize
-    requires { CycleAsked f.now branches.last.now branches.before.now x trees.old labels.old at }
+    requires { CycleAsked f.now branches.now.last.now branches.now.before.now x trees.old labels.old at }
     ensures { ComponentWritten f.now x at trees.old labels.old result trees.new labels.new }
 {
     let end = trees_along(f, branches, x, trees, labels, at);
@@ -101,12 +101,12 @@ fn component_at(
 fn components_of(
     f: &[u8],
     leads: &[u8],
-    branches: Branches,
+    branches: &Branches,
     sizes: &mut [u8],
     trees: &mut [u8],
     labels: &mut [u8],
 ) -> usize
-    requires { ComponentsAsked f.now leads.now branches.last.now branches.before.now sizes.old trees.old labels.old }
+    requires { ComponentsAsked f.now leads.now branches.now.last.now branches.now.before.now sizes.old trees.old labels.old }
     ensures { SystemWritten f.now result sizes.new trees.new labels.new }
 {
     let mut m = 0;
@@ -144,7 +144,7 @@ pub fn system_of(
         last: &last[..n],
         before: &before[..n],
     };
-    components_of(f, &leads[..n], branches, sizes, trees, labels)
+    components_of(f, &leads[..n], &branches, sizes, trees, labels)
 }
 
 // The system of the table by value, its labels beside it.

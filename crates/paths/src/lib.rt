@@ -11,6 +11,7 @@ ghost use Rattle.component_theory.specs.Path.{path};
 ghost use Rattle.paths.specs.HeldPaths.{HeldKeys, HeldTrace, HeldPair, Traced};
 
 use components::unmerge_at;
+use lists::equal;
 use patterns::points_room;
 use std::cmp::Ordering;
 use trees::{count, leading};
@@ -67,6 +68,10 @@ fn compare_by_paths(a: &[u8], b: &[u8]) -> Ordering
     ensures { (c d : Component) → a.now ≡ flat c → b.now ≡ flat d
         → ordering_of result ≡ lex_by compare_numbers not true (path c) (path d) }
 {
+    // Equal components, of which a system can have many, need no paths.
+    if equal(a, b) {
+        return Ordering::Equal;
+    }
     let n = a.len();
     let mut work = points_room();
     let mut first = [0u16; 200];

@@ -73,6 +73,9 @@ pub fn count(s: &[u8]) -> usize
     ensures { (c : Component) → s.now ≡ flat c → result ≡ length c }
 {
     let points = leading(s);
+    if points == s.len() {
+        return points;
+    }
     points + Trees::new(&s[points..]).count()
 }
 

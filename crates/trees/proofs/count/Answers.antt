@@ -1,5 +1,5 @@
 use Rattle.std.proofs.lemmas.Iterator.Consumers.{count_from_yields_List, YieldsList-from_first}
-use Rattle.std.proofs.Common.{◌≡◌, refl, inl, length, ap, arith, drop}
+use Rattle.std.proofs.Common.{◌≡◌, ◌-◌, refl, inl, length, ap, arith, take, drop}
 use Rattle.trees.specs.Codes.{codes}
 use Rattle.trees.proofs.FirstPoints.{leading-within, behind-points, count-behind, count-within}
 use Rattle.trees.proofs.count.Goals as goal
@@ -43,4 +43,15 @@ returns c =
     let r : c.count.result ≡ length (codes c.new.result.rest.now) = count_from_yields_List c.new.result c.count.result c.count.ensures.ran (YieldsList-from_first (λ x. x.now) (λ s. codes s.rest.now) (codes c.new.result.rest.now) refl) in
     let q = count-behind c.args.s.now d c.leading-points.result e (c.leading-points.ensures d e) in
     let f = ap (λ x. length (codes x)) c.new.ensures in
+    omega arith
+
+pub returns-then-points-s : goal.returns-then-points-s
+unfolding codes
+returns-then-points-s c =
+    λ d e.
+    let s = c.args.s.now in
+    let k = c.leading-points.result in
+    let q = count-behind s d k e (c.leading-points.ensures d e) in
+    let z : length s - k ≡ 0 = omega arith in
+    let n : length (codes (take (length s - k) (drop k s))) ≡ 0 = ap (λ m. length (codes (take m (drop k s)))) z in
     omega arith
