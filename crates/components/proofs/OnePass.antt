@@ -2,22 +2,23 @@
 use mathlib.Core.Path.{◌≡◌, refl, ap, ap₂, sym, ◌∙◌, subst}
 use mathlib.Core.Bool.{true, false}
 use mathlib.Core.List.{List, [], ◌∷◌, ◌++◌, append_assoc, head-eq_of_cons-eq}
-use Prim.Native.Nat.{ℕ, zero, suc, ◌+◌, ◌-◌, ◌*◌, ◌/◌, ◌%◌, ◌≤◌, ◌<◌, compare, Ordering}
+use Prim.Native.Nat.{ℕ, zero, suc, ◌+◌, ◌-◌, ◌*◌, ◌/◌, ◌%◌, ◌≤◌, ◌<◌, max, compare, Ordering}
 use native.Mathlib.Nat.{add-zero, mod-eq_of_lt, div-eq_of_lt, mul-add-mod_self_right, mul-add-div_right}
 use native.Mathlib.Omega.{arith}
 use lib.Dec.{is_le}
-use lib.ListN.{length, get_or, take, drop, length-append, take-append-drop}
+use lib.ListN.{length, get_or, take, drop, replicate, length-append, length-replicate, take-append-drop}
 use lib.Seq.{take-append-le, take_all}
 use Rattle.lists.specs.Order.{lex, at_most}
 use Rattle.lists.specs.Select.{each}
 use Rattle.lists.proofs.Tests.{◌∈◌, by-test, each-true, each-false}
 use Rattle.lists.proofs.Members.{in_list}
-use Rattle.lists.proofs.Necklace.{Prenecklace, Earlier, prenecklace-one, earlier, prenecklace-equal, prenecklace-greater, prenecklace-smaller}
-use Rattle.patterns.specs.Tree.{size, code, compare_tree}
+use Rattle.lists.proofs.Necklace.{Prenecklace, Earlier, up_to, prenecklace-one, earlier, prenecklace-equal, prenecklace-greater, prenecklace-smaller}
+use Rattle.patterns.specs.Tree.{point, merge, size, code, compare_tree}
 use Rattle.patterns.specs.Component.{Component, points, flat, rotations, compare_component, rotation_symmetry, nonempty}
 use Rattle.patterns.proofs.Trees.{size-positive, length-flat, flat_append, points-append, compare_tree-lawful}
 use Rattle.patterns.proofs.Rotations.{rotation-append, split-of-rotation}
 use Rattle.memory.specs.Memory.{Held}
+use Rattle.trees.specs.Beginnings.{leading_points}
 use Rattle.trees.proofs.Walks.{Along, Next, next-tree, next-stretch, along-next, along-step, along-end, along-whole, no-trees}
 use Rattle.component_theory.proofs.Powers.{Powers, powers-total, over-light}
 use Rattle.component_theory.proofs.RotationSymmetry.{symmetry-is}
@@ -55,6 +56,56 @@ kept-start {s} h k =
     let q : 0 + get_or s 0 0 ≡ get_or s 0 0 = omega arith in
     subst (λ i. Along s i (Kept (get_or s 0 0))) q
     (along-step w n (Kept (get_or s 0 0)) (record { count = 1; word = prenecklace-one compare_tree n.tree; place = omega (arith, n.number) }))
+
+-- single points one after another are a prenecklace, whose period is one of them
+same-points : (k : ℕ) → up_to compare_tree (replicate (suc k) point) (replicate k point) ≡ Ordering.eq
+same-points zero = refl
+same-points (suc k) = rw (compare_tree-lawful.self point) (same-points k)
+
+points-of : (k : ℕ) → points (replicate k point) ≡ k
+points-of zero = refl
+points-of (suc k) = omega (arith, points-of k)
+
+first-points : (k : ℕ) (c : Component) → k ≤ leading_points c → replicate k point ++ drop k c ≡ c
+first-points zero c h = refl
+first-points (suc k) [] h = absurd (omega arith)
+first-points (suc k) (point ∷ c) h = ap (λ l. point ∷ l) (first-points k c (omega arith))
+first-points (suc k) (merge t u ∷ c) h = absurd (omega arith)
+
+points-kept : {s : List ℕ} (c : Component) (k : ℕ) → s ≡ flat c → suc k ≤ leading_points c → Along s (suc k) (Kept 1)
+points-kept c k e h =
+    record {
+      ahead = replicate (suc k) point;
+      rest = drop (suc k) c;
+      cut = e ∙ ap flat (sym (first-points (suc k) c h));
+      place = sym (points-of (suc k));
+      kept = record {
+        count = 1;
+        word = record {
+          positive = omega arith;
+          within = omega (arith, length-replicate (suc k) point);
+          repeats = same-points k;
+          greater = λ j l m. absurd (omega arith);
+        };
+        place = refl;
+      };
+    }
+
+-- the same behind all points that come first, which are powers of one of them
+pub kept-behind : {s : List ℕ} → Held s → 0 < length s → (k at : ℕ) → ((c : Component) → s ≡ flat c → k ≡ leading_points c) → at ≡ max (get_or s 0 0) k
+    → Along s at (Kept (get_or s 0 0))
+kept-behind {s} h l k at f e =
+    starts h.trees h.is
+  where
+    starts : (c : Component) → s ≡ flat c → Along s at (Kept (get_or s 0 0))
+    starts [] q = absurd (omega (arith, ap length q))
+    starts (point ∷ c) q =
+        let one : get_or s 0 0 ≡ 1 = ap (λ l. get_or l 0 0) q in
+        let n : at ≡ suc (leading_points c) = omega (arith, e, one, f (point ∷ c) q) in
+        rw (one, n) (points-kept (point ∷ c) (leading_points c) q (omega arith))
+    starts (merge t u ∷ c) q =
+        let n : at ≡ get_or s 0 0 = omega (arith, e, f (merge t u ∷ c) q) in
+        rw n (kept-start h l)
 
 -- the codes of the trees that begin at two places, compared
 abbrev pub trees_at : List ℕ → ℕ → ℕ → Ordering

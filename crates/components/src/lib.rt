@@ -23,7 +23,8 @@ pub fn least_rotation(s: &[u8]) -> Option<usize>
         return Some(0);
     }
     let mut period = s[0] as usize;
-    let mut at = period;
+    // Points that come first are all the same: they are counted and not walked, since most cycles begin with many.
+    let mut at = period.max(leading(s));
     // Kept: nothing is counted, two places go on by the sizes of their trees, one a period behind the other.
     while at < s.len() {
         let back = at - period;

@@ -2,14 +2,14 @@ use mathlib.Core.Path.{sym, ap, ◌∙◌}
 use native.Mathlib.Omega.{arith}
 use Rattle.lists.specs.Blocks.{ordering_of}
 use Rattle.trees.proofs.Walks.{along-next}
-use Rattle.components.proofs.OnePass.{none-less, kept-start, kept-within, old-tree, kept-equal, kept-greater, kept-smaller, period-some, kept-told}
+use Rattle.components.proofs.OnePass.{none-less, kept-behind, kept-within, old-tree, kept-equal, kept-greater, kept-smaller, period-some, kept-told}
 use Rattle.components.proofs.least_rotation.Goals as goal
 
 pub returns-then-is_empty : goal.returns-then-is_empty
 returns-then-is_empty c = λ d e. none-less c.args.s.now (grind arith) d e
 
 pub loop-at-init : goal.loop-at-init
-loop-at-init c = kept-start c.requires (grind arith)
+loop-at-init c = kept-behind c.requires (grind arith) c.leading.result c.max-at.result c.leading.ensures c.max-at.ensures
 
 pub overflow_sub-back : goal.overflow_sub-back
 overflow_sub-back c = kept-within c.loop-at.invariant
