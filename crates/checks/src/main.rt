@@ -35,7 +35,7 @@ const ANSWERS: [(&str, &str); 10] = [
 // Whether a case holds, whose first number is that of its entry.
 fn holds(numbers: &mut Numbers<'_>) -> Result<bool, Fault> {
     match numbers.number()? {
-        CENSUS => census_checks::holds(numbers),
+        CENSUS => census_checks::holds_whole(numbers),
         number => entry_checks::cases::holds(Entry::try_from(number)?, numbers),
     }
 }
