@@ -1,5 +1,5 @@
 // Lists of any length, of which only the beginning is kept.
-ghost use Rattle.std.specs.Prelude.{◌+◌, ◌≤◌, ◌<◌, IsSome, IfSome};
+ghost use Rattle.std.specs.Prelude.{◌≡◌, ◌+◌, ◌%◌, ◌≤◌, ◌<◌, IsSome, IfSome};
 
 use case_text::faults::Fault;
 use case_text::lists::FILLING;
@@ -18,7 +18,7 @@ pub struct Beginning<const N: usize> {
 fn last_place(i: usize, period: usize, len: usize) -> Option<usize>
     requires { i < period }
     ensures some { i < len → IsSome result }
-    ensures last { IfSome result (λ place. (i ≤ place) × (place < len) × (len ≤ place + period)) }
+    ensures last { IfSome result (λ place. (place < len) × (len ≤ place + period) × (place % period ≡ i)) }
 {
     let last = len.checked_sub(1)?;
     let after = last.checked_sub(i)?;
